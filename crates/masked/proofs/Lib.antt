@@ -1,0 +1,4 @@
+pub mod Widths
+pub mod Spreads
+pub mod Fields
+pub mod Turns
