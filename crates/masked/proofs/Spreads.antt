@@ -39,10 +39,10 @@ pub gather-none : (v m : ℕ) → gather-over 0 v m ≡ 0
 unfolding gather-over
 gather-none v m = refl
 
-pow-more : (k : ℕ) → 2 ^ suc k ≡ 2 * 2 ^ k
+pub pow-more : (k : ℕ) → 2 ^ suc k ≡ 2 * 2 ^ k
 pow-more k = rw (pow-suc 2 k) (omega arith)
 
-half-below : (k m : ℕ) → m < 2 ^ suc k → m / 2 < 2 ^ k
+pub half-below : (k m : ℕ) → m < 2 ^ suc k → m / 2 < 2 ^ k
 half-below k m h = let p = pow-more k in omega arith
 
 pub ones-even : (m : ℕ) → m % 2 ≡ 0 → ones m ≡ ones (m / 2)

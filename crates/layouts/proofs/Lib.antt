@@ -1,0 +1,5 @@
+pub mod MaskLaws
+pub mod StrideLaws
+pub mod Fits
+pub mod Calls
+pub mod Legals

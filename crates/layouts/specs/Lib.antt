@@ -1,0 +1,3 @@
+pub mod Conditions
+pub mod Plans
+pub mod Layouts
