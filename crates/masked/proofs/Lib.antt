@@ -4,3 +4,6 @@ pub mod Fields
 pub mod Turns
 pub mod Lowest
 pub mod Runs
+pub mod Sums
+pub mod Dilations
+pub mod Registers

@@ -18,6 +18,8 @@ pub enum Refusal {
     Room,
     // The number has more bits than the mask has ones.
     Field,
+    // The level is over 12, or the index belongs to no block.
+    Block,
     // The row or the column lies outside the table.
     Outside,
     // Another order letter, an inner width that it does not take, or a line of another form.
@@ -37,6 +39,7 @@ impl Refusal {
             Refusal::Stride => 9,
             Refusal::Room => 12,
             Refusal::Field => 13,
+            Refusal::Block => 14,
             Refusal::Outside => 17,
             Refusal::Order => 20,
         }

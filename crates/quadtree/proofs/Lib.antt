@@ -1,0 +1,4 @@
+pub mod Powers
+pub mod Indices
+pub mod Starts
+pub mod Places
