@@ -64,8 +64,8 @@ cut input n e =
     (λ h. let long : 4096 < length input = h in let some : n - 0 ≡ 4096 = omega arith in rw some)
     (cases-le (length input) 4096)
   where
-  cases-le : (a b : ℕ) → (a ≤ b) ⊎ (b < a)
-  cases-le a b = ⊎-elim (λ h. let l : b < a = h in inr l) (λ h. let l : a ≤ b = h in inl l) (cases-lt b a)
+    cases-le : (a b : ℕ) → (a ≤ b) ⊎ (b < a)
+    cases-le a b = ⊎-elim (λ h. let l : b < a = h in inr l) (λ h. let l : a ≤ b = h in inl l) (cases-lt b a)
 
 -- at first nothing is out
 pub line-none : (out read input : List ℕ) → out ≡ [] → read ≡ take 4096 input → out ++ joined line-answer (lines read) ≡ answers input

@@ -9,7 +9,7 @@ ghost use Rattle.answers.specs.Hex.{hex-digit, hex};
 use std::alloc::AllocError;
 
 // The lower-case hexadecimal digit of a number below 16.
-pub(crate) fn hex_digit(n: u8) -> char
+fn hex_digit(n: u8) -> char
     requires { ⌜ n < 16 ⌝ }
     ensures { λ r. ⌜ r ≡ hex-digit n ⌝ }
 {

@@ -62,9 +62,18 @@ pub fn write(layout: &Layout, bytes: &mut [u8]) -> Result<usize, Refusal>
     match layout {
         Layout::Masks(p) => put(
             bytes,
-            &[0, p.shape.rows - 1, p.shape.columns - 1, p.row_mask, p.column_mask],
+            &[
+                0,
+                p.shape.rows - 1,
+                p.shape.columns - 1,
+                p.row_mask,
+                p.column_mask,
+            ],
         ),
         Layout::RowStride(p) => put(bytes, &[1, p.shape.rows - 1, p.shape.columns - 1, p.stride]),
-        Layout::ColumnStride(p) => put(bytes, &[2, p.shape.rows - 1, p.shape.columns - 1, p.stride]),
+        Layout::ColumnStride(p) => put(
+            bytes,
+            &[2, p.shape.rows - 1, p.shape.columns - 1, p.stride],
+        ),
     }
 }

@@ -3,3 +3,4 @@ pub mod StrideLaws
 pub mod Fits
 pub mod Calls
 pub mod Legals
+pub mod Steps

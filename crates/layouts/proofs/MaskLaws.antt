@@ -34,10 +34,10 @@ both-below y x a b d = rw (sym (or-disjoint y x d)) (or-lt 24 y x a b)
 
 module _ (r c y x : ℕ) (fit : Masks-fit r c y x) where
   -- each mask finds its own part of a cell again
-  row-part : (i j : ℕ) → bitAnd (spread i y + spread j x) y ≡ spread i y
+  pub row-part : (i j : ℕ) → bitAnd (spread i y + spread j x) y ≡ spread i y
   row-part i j = spread-part i j y x (fit .unshared)
 
-  column-part : (i j : ℕ) → bitAnd (spread i y + spread j x) x ≡ spread j x
+  pub column-part : (i j : ℕ) → bitAnd (spread i y + spread j x) x ≡ spread j x
   column-part i j =
       let d : bitAnd x y ≡ 0 = and-comm x y ∙ fit .unshared in
       rw (add-comm (spread i y) (spread j x)) (spread-part j i x y d)

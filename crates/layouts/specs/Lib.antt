@@ -1,3 +1,4 @@
 pub mod Conditions
 pub mod Plans
+pub mod Moves
 pub mod Layouts

@@ -1,10 +1,10 @@
 // A layout as a placement: the one that was chosen.
 ghost use Rattle.layouts.specs.Layouts.{layout-plan};
 ghost use Rattle.layouts.specs.Plans.{site-of};
+use crate::column_placement::ColumnStridePlacement;
 use crate::layout::Layout;
 use crate::masks_placement::MasksPlacement;
-use crate::strides_placement::ColumnStridePlacement;
-use crate::strides_placement::RowStridePlacement;
+use crate::row_placement::RowStridePlacement;
 use masked::Refusal;
 use placement::Placement;
 use placement::Shape;

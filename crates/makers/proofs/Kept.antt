@@ -70,7 +70,7 @@ made r c y x w v ky kx h row-32 column-32 ew ev rb cb ek el a b d =
         le-leb (width (c - 1)) (ones x) column-bits,
         lt-ltb (lowest (width (r - 1)) y) (2 ^ 24) a′,
         lt-ltb (lowest (width (c - 1)) x) (2 ^ 24) b′,
-        eq-eqb (bitAnd (lowest (width (r - 1)) y) (lowest (width (c - 1)) x)) 0 d′
+        eq-eqb (bitAnd (lowest (width (r - 1)) y) (lowest (width (c - 1)) x)) 0 d′,
       );
       places = kept-places r c y x (sides .0) (sides .1) row-32 column-32 row-bits column-bits;
     })

@@ -35,7 +35,7 @@ module _ (r c y x : ℕ) (row column : ℕ → ℕ) (row-ones : 12 ≤ ones y) (
         lt-ltb (lowest (width (c - 1)) x) (2 ^ 24) (column-low′ (width (c - 1)) b),
         eq-eqb (bitAnd (lowest (width (r - 1)) y) (lowest (width (c - 1)) x)) 0 d,
         row-kept′ (width (r - 1)) a,
-        column-kept′ (width (c - 1)) b
+        column-kept′ (width (c - 1)) b,
       )
 
   pub positions-made : from-masks r c y x ≡ unless (shaped r c) Shape (Ok (at-positions r c row column))

@@ -13,11 +13,11 @@ use Rattle.masked.proofs.Spreads.{half-below}
 use Rattle.makers.specs.Positions.{column-position, row-position, mask-at, column-full, row-full}
 
 -- a test at each number below n
-abbrev every : (ℕ → Bool) → ℕ → Bool
+abbrev pub every : (ℕ → Bool) → ℕ → Bool
 every f zero = true
 every f (suc n) = f n && every f n
 
-every-at : (f : ℕ → Bool) (n : ℕ) → every f n ≡ true → (k : ℕ) → k < n → f k ≡ true
+pub every-at : (f : ℕ → Bool) (n : ℕ) → every f n ≡ true → (k : ℕ) → k < n → f k ≡ true
 every-at f n e = decides-below-and f (λ k. f k ≡ true) (every f) (λ k. (λ h. h, λ h. h)) refl (λ _. refl) n .0 e
 
 -- a test at each two numbers up to 12

@@ -22,8 +22,8 @@ mul-column-mask c =
 can : (c : After-side-bits) → (ones (c .args .stride) ≡ 1) ⊎ (c .args .shape .columns ≡ 1)
 can c =
     elim (c .then-is-power-of-two .came) [
-      then-is-power-of-two·by·then-is-power-of-two w ↦ inl (eqb-true (ones (c .args .stride)) 1 (sym (c .is-power-of-two .ensures) ∙ w .if-is-power-of-two .taken))
-    | then-is-power-of-two·by·else-is-power-of-two·then-shape-eq1 w ↦ inr (w .if-shape-eq1 .taken)
+      | then-is-power-of-two·by·then-is-power-of-two w ↦ inl (eqb-true (ones (c .args .stride)) 1 (sym (c .is-power-of-two .ensures) ∙ w .if-is-power-of-two .taken))
+      | then-is-power-of-two·by·else-is-power-of-two·then-shape-eq1 w ↦ inr (w .if-shape-eq1 .taken)
     ]
 
 all : (c : After-side-bits) → Column-made (c .args .shape .rows) (c .args .shape .columns) (c .args .stride) (c .side-bits-row-mask .result) (c .side-bits .result * c .args .stride)

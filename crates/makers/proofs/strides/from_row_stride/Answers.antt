@@ -22,8 +22,8 @@ mul-row-mask c =
 can : (c : After-side-bits-column-mask) → (ones (c .args .stride) ≡ 1) ⊎ (c .args .shape .rows ≡ 1)
 can c =
     elim (c .then-is-power-of-two .came) [
-      then-is-power-of-two·by·then-is-power-of-two w ↦ inl (eqb-true (ones (c .args .stride)) 1 (sym (c .is-power-of-two .ensures) ∙ w .if-is-power-of-two .taken))
-    | then-is-power-of-two·by·else-is-power-of-two·then-shape-eq1 w ↦ inr (w .if-shape-eq1 .taken)
+      | then-is-power-of-two·by·then-is-power-of-two w ↦ inl (eqb-true (ones (c .args .stride)) 1 (sym (c .is-power-of-two .ensures) ∙ w .if-is-power-of-two .taken))
+      | then-is-power-of-two·by·else-is-power-of-two·then-shape-eq1 w ↦ inr (w .if-shape-eq1 .taken)
     ]
 
 all : (c : After-side-bits-column-mask) → Row-made (c .args .shape .rows) (c .args .shape .columns) (c .args .stride) (c .side-bits .result * c .args .stride) (c .side-bits-column-mask .result)

@@ -1,8 +1,8 @@
 use native.Mathlib.Omega.{arith}
 use Rattle.layouts.proofs.Fits.{column-fits}
 use Rattle.layouts.proofs.StrideLaws.{column-owner, column-no-owner}
-use Rattle.layouts.proofs.strides_placement.ColumnStridePlacement.owner.Needs as need
-use Rattle.layouts.proofs.strides_placement.ColumnStridePlacement.owner.Needs.{else-row-self·by·then-row-self·else-column-self, else-row-self·by·else-row-self}
+use Rattle.layouts.proofs.column_placement.ColumnStridePlacement.owner.Needs as need
+use Rattle.layouts.proofs.column_placement.ColumnStridePlacement.owner.Needs.{else-row-self·by·then-row-self·else-column-self, else-row-self·by·else-row-self}
 
 pub returns-then-column-self : need.returns-then-column-self
 returns-then-column-self c = column-owner _ _ _ (column-fits (c .args .self .now)) (c .args .cell) (c .if-row-self .taken) (c .if-column-self .taken)
