@@ -1,0 +1,5 @@
+use Rattle.kinds.proofs.Elements.{time-same}
+use Rattle.kinds.proofs.meanings.TravelTimeKind.times.Needs as need
+
+pub returns : need.returns
+returns c = time-same _ _ (c .saturating-add .ensures)
