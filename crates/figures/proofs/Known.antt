@@ -11,6 +11,8 @@ use Rattle.masked.specs.Fields.{spread, spread-over, gather, gather-over, width
 use Rattle.masked.proofs.Widths.{width-below, below-width}
 use Rattle.makers.proofs.Positions.{every, every-at}
 use Rattle.makers.specs.Positions.{mask-at, row-position, column-position}
+use Rattle.walk.specs.Walks.{walk, inside, least-height, height-of, reflected, allowed, walk-of}
+use Rattle.descriptor.specs.Reading.{number-at}
 use Rattle.figures.specs.Figures.{Figures}
 
 -- the width of a side that has entry i is between those of i and of 4,095
@@ -55,7 +57,7 @@ cell-in-z r c a b d e =
     )
 
 pub known : Figures
-unfolding spread spread-over gather gather-over ones onesIn
+unfolding spread spread-over gather gather-over ones onesIn width walk inside least-height height-of reflected allowed walk-of number-at
 known = record {
   row-spread = refl;
   column-spread = refl;
@@ -66,4 +68,11 @@ known = record {
   sum-over-gap = refl;
   ahnentafel = refl;
   level-order = refl;
+  walk-whole = refl;
+  walk-ninth = refl;
+  read-power = refl;
+  read-one-row = refl;
+  read-padded = refl;
+  read-one-entry = refl;
+  one-entry-span = refl;
 }

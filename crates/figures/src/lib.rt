@@ -5,8 +5,8 @@ ghost use Rattle.figures.specs.Figures.{Figures};
 
 // How many figures the list has. That the definitions give them is the contract.
 pub fn known_figures() -> u32
-    ensures count { λ r. ⌜ r ≡ 9 ⌝ }
+    ensures count { λ r. ⌜ r ≡ 16 ⌝ }
     ensures figures { λ _. ⌜ Figures ⌝ }
 {
-    9
+    16
 }
