@@ -1,5 +1,6 @@
 // Runs the library against computations of its own, and prints how often the two agree.
 mod placements;
+mod products;
 mod readings;
 mod source;
 mod tally;
@@ -15,5 +16,11 @@ fn main(rt: LibcRuntime) -> io::Result<()> {
     let damaged = readings::damaged_descriptors();
     println!(rt, "damaged descriptors: {damaged}")?;
     let orders = placements::named_orders();
-    println!(rt, "named orders of small tables: {orders}")
+    println!(rt, "named orders of small tables: {orders}")?;
+    let counts = products::counts(rt.alloc())?;
+    println!(rt, "products of counts: {counts}")?;
+    let times = products::travel_times(rt.alloc())?;
+    println!(rt, "products of travel times: {times}")?;
+    let connections = products::connections(rt.alloc())?;
+    println!(rt, "products of connections: {connections}")
 }
