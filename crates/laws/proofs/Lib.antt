@@ -1,3 +1,4 @@
 pub mod Adding
 pub mod Tiles
 pub mod Stored
+pub mod Runs

@@ -2,12 +2,12 @@
 use mathlib.Core.Path.{_≡_, refl, sym, ap, _∙_}
 use mathlib.Core.Bool.{Bool, true, false}
 use mathlib.Core.List.{List}
-use mathlib.Core.Logic.{_⊎_, inl, inr, _≢_}
-use Prim.Native.Nat.{ℕ, zero, suc, _+_, _<_, _≤_}
+use mathlib.Core.Logic.{_⊎_, inl, inr}
+use Prim.Native.Nat.{ℕ, zero, suc, _<_, _≤_}
 use native.Mathlib.Omega.{arith}
 use lib.ListN.{length, getD, set}
 use Rattle.std.proofs.shelf.Lists.{length-set, getD-set-same, getD-set-other, same-lists, getD-default}
-use Rattle.std.proofs.shelf.Tests.{cases-eq, cases-bool, both-ways}
+use Rattle.std.proofs.shelf.Tests.{cases-eq, both-ways}
 use Rattle.placement.specs.Sites.{Site, Lawful, Inside}
 use Rattle.placement.specs.Cells.{owned}
 use Rattle.placement.proofs.Cells.{owned-means, owned-from}
@@ -161,3 +161,9 @@ module _ {E : Type 0} (p : Site) (law : Lawful p) (s : List E) (long : p .span �
         entries = n .entries;
         others = λ a d free. n .others a d free ∙ m .others a d free;
       })
+
+  -- a table written over another, each entry made of the one that is there
+  pub stored-next : (nought : E) (f : Table E) (g : ℕ → ℕ → E → E) → stored p (λ i j. g i j (entry-of p nought (stored p f s) i j)) (stored p f s) ≡ stored p (λ i j. g i j (f i j)) s
+  stored-next nought f g =
+      stored-stored f (λ i j. g i j (entry-of p nought (stored p f s) i j))
+      ∙ stored-same (λ i j. g i j (entry-of p nought (stored p f s) i j)) (λ i j. g i j (f i j)) (λ i j h. ap (g i j) (stored-entry f i j nought h))

@@ -7,18 +7,16 @@ use Prim.Native.Nat.{ℕ, zero, suc, min, _+_, _-_, _*_, _/_, _%_, _^_, _<_, _�
 use native.Mathlib.Nat.{mod-lt}
 use native.Mathlib.Omega.{arith}
 use lib.Dec.{leb, ltb, eqb}
-use lib.ListN.{length, getD, take}
-use Rattle.std.specs.Iters.{folded}
-use Rattle.std.specs.shelf.Lists.{countBy}
+use lib.ListN.{take}
 use Rattle.std.proofs.shelf.Bits.{pow-pos, mul-le}
 use Rattle.std.proofs.shelf.Sums.{folded-more}
-use Rattle.std.proofs.shelf.Tests.{cases-order, cases-lt, cases-eq, le-leb, lt-leb, lt-ltb, le-ltb, eq-eqb, ne-eqb, and-left, and-right}
+use Rattle.std.proofs.shelf.Tests.{cases-order, cases-lt, lt-ltb, le-ltb, eq-eqb, ne-eqb}
 use Rattle.std.proofs.shelf.Ways.{tells}
 use Rattle.walk.specs.declared.sizes.Triple.{Triple}
 use Rattle.walk.specs.declared.sizes.Sizes.{Sizes}
 use Rattle.walk.specs.Walks.{Walks, inside, same, triple}
 use Rattle.laws.specs.Products.{Table, Adds, added, added-between, full-sum, terms, first-of, past-of, covers, covered, tile, after, tile-table, table-after, Product-law, Entry-law, Part-law}
-use Rattle.laws.proofs.Adding.{added-same, added-added, between-none, right-neutral, summed-first, total, total-same, total-plus, total-nought, total-counted}
+use Rattle.laws.proofs.Adding.{added-added, between-none, right-neutral, summed-first, total, total-same, total-plus, total-nought, total-counted}
 
 -- the tile that covers an index of the side is the one with the quotient for its number
 pub covers-only : (n t b i : ℕ) → i < n → covers n t b i ≡ eqb (i / 2 ^ t) b

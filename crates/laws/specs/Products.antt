@@ -43,6 +43,7 @@ first-of t b = b * 2 ^ t
 abbrev pub past-of : ℕ → ℕ → ℕ → ℕ
 past-of n t b = min n (b * 2 ^ t + 2 ^ t)
 
+-- whether tile b of that side covers the index i
 abbrev pub covers : ℕ → ℕ → ℕ → ℕ → Bool
 covers n t b i = leb (first-of t b) i && ltb i (past-of n t b)
 
@@ -50,7 +51,8 @@ covers n t b i = leb (first-of t b) i && ltb i (past-of n t b)
 abbrev pub covered : Sizes → Triple → ℕ → ℕ → Bool
 covered s t i j = covers (s .rows) (s .order) (t .row) i && covers (s .columns) (s .order) (t .column) j
 
--- what a triple makes of the entry x at row i and column j, whose terms are f
+-- what a triple makes of the entry x at row i and column j, whose terms are f: x itself where the triple does not
+-- cover the entry, else x with the terms of the middle indices that it covers added
 unfoldable pub tile : {E : Type 0} → (E → E → E) → Sizes → (ℕ → E) → ℕ → ℕ → E → Triple → E
 tile plus s f i j x t =
     cond (covered s t i j) (added-between plus x f (first-of (s .order) (t .middle)) (past-of (s .middle) (s .order) (t .middle))) x

@@ -3,11 +3,13 @@ use mathlib.Core.Path.{_≡_}
 use mathlib.Core.List.{List}
 use Prim.Native.Nat.{ℕ, zero, suc, _<_, _≤_}
 use lib.ListN.{length, getD, set}
+use Rattle.std.specs.Iters.{folded}
 use Rattle.kinds.specs.declared.kind.Kind.{Ghosts as Kinds}
 use Rattle.placement.specs.Sites.{Site, Lawful, Inside}
 use Rattle.walk.specs.declared.sizes.Triple.{Triple}
 use Rattle.walk.specs.declared.sizes.Sizes.{Sizes}
-use Rattle.laws.specs.Products.{Table, terms, tile-table}
+use Rattle.walk.specs.Walks.{Walks}
+use Rattle.laws.specs.Products.{Table, terms, full-sum, tile-table, table-after}
 
 -- the entry at row i and column j of the table that a store holds: the element at the entry's cell
 abbrev pub entry-of : {E : Type 0} → Site → E → List E → Table E
@@ -47,3 +49,25 @@ stored-terms kind left right lefts rights =
 abbrev pub tile-stored : {E : Type 0} → Kinds E → Sizes → (left right result : Site) (lefts rights results : List E) → Triple → List E
 tile-stored kind sizes left right result lefts rights results t =
     stored result (tile-table (kind .joined) sizes (stored-terms kind left right lefts rights) (entry-of result (kind .nought) results) t) results
+
+-- and after the products of a list of tiles, one after the other
+abbrev pub run-stored : {E : Type 0} → Kinds E → Sizes → (left right result : Site) (lefts rights results : List E) → List Triple → List E
+run-stored kind sizes left right result lefts rights results ts =
+    folded (tile-stored kind sizes left right result lefts rights) results ts
+
+-- Whatever triples are taken, the store then holds the table that they make, and every other cell is as it was.
+abbrev pub Run-law : {E : Type 0} → Kinds E → Type 0
+Run-law {E} kind =
+    (sizes : Sizes) (left right result : Site) (lefts rights results : List E) (ts : List Triple)
+    → Lawful result → result .span ≤ length results
+    → run-stored kind sizes left right result lefts rights results ts
+    ≡ stored result (table-after (kind .joined) sizes (stored-terms kind left right lefts rights) ts (entry-of result (kind .nought) results)) results
+
+-- After a walk each entry of the result is its old value plus the full sum of its terms.
+abbrev pub Sums-law : {E : Type 0} → Kinds E → Type 0
+Sums-law {E} kind =
+    (sizes : Sizes) (ts : List Triple) → Walks sizes ts
+    → (left right result : Site) (lefts rights results : List E) → Lawful result → result .span ≤ length results
+    → (i j : ℕ) → i < sizes .rows → j < sizes .columns → Inside result i j
+    → entry-of result (kind .nought) (run-stored kind sizes left right result lefts rights results ts) i j
+    ≡ kind .joined (entry-of result (kind .nought) results i j) (full-sum (kind .joined) (kind .nought) (stored-terms kind left right lefts rights i j) (sizes .middle))

@@ -1,13 +1,12 @@
 -- Indices stay inside the tables.
 use mathlib.Core.Path.{_≡_, sym, _∙_}
-use mathlib.Core.Bool.{cond, true}
 use mathlib.Core.List.{List}
-use Prim.Native.Nat.{ℕ, min, _+_, _*_, _^_, _<_, _≤_}
+use Prim.Native.Nat.{ℕ, _*_, _^_, _<_, _≤_}
 use native.Mathlib.Omega.{arith}
 use lib.Dec.{ltb}
 use Rattle.std.proofs.shelf.Tests.{and-parts, ltb-true, lt-ltb}
 use Rattle.std.specs.declared.result.Result.{Result}
-use Rattle.std.specs.declared.result.Result.the-variants.{Ok, Err}
+use Rattle.std.specs.declared.result.Result.the-variants.{Ok}
 use Rattle.masked.specs.declared.refusal.Refusal.{Refusal}
 use Rattle.placement.specs.Sites.{Site, Lawful, Inside, address-answer}
 use Rattle.walk.specs.declared.sizes.Triple.{Triple}

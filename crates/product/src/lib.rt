@@ -2,4 +2,5 @@
 mod entries;
 mod tile;
 
+pub use entries::Held;
 pub use tile::tile_product;

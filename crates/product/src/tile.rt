@@ -4,6 +4,7 @@ ghost use mathlib.Core.Path.{_≡_};
 ghost use Rattle.laws.specs.Products.{first-of, past-of};
 ghost use Rattle.laws.specs.Stores.{tile-stored};
 ghost use Rattle.product.specs.Tiles.{Tables, Begins};
+use super::entries::Held;
 use super::entries::cell_at;
 use super::entries::entry_sum;
 use kinds::Kind;
@@ -33,18 +34,16 @@ fn past(side: u32, order: u32, tile: u32) -> u32
 // the result that it covers, and every other cell is as it was. The sizes are those of the product, and may be
 // smaller than the tables.
 pub fn tile_product<L: Placement, R: Placement, S: Placement, E: Kind + Copy>(
-    left: &L,
-    lefts: &[E],
-    right: &R,
-    rights: &[E],
+    left: Held<L, E>,
+    right: Held<R, E>,
     result: &S,
     results: &mut [E],
     sizes: Sizes,
     triple: Triple,
 )
-    requires tables { ⌜ Tables sizes (L·Placement .site (now left)) (R·Placement .site (now right)) (S·Placement .site (now result)) (now lefts) (now rights) (now results) ⌝ }
+    requires tables { ⌜ Tables sizes (L·Placement .site (now (left .placement))) (R·Placement .site (now (right .placement))) (S·Placement .site (now result)) (now (left .store)) (now (right .store)) (now results) ⌝ }
     requires triple { ⌜ Begins sizes triple ⌝ }
-    ensures { λ _. ⌜ now (results .exit) ≡ tile-stored E·Kind sizes (L·Placement .site (now (left .entry))) (R·Placement .site (now (right .entry))) (S·Placement .site (now (result .entry))) (now (lefts .entry)) (now (rights .entry)) (now (results .entry)) triple ⌝ }
+    ensures { λ _. ⌜ now (results .exit) ≡ tile-stored E·Kind sizes (L·Placement .site (now (left .entry .placement))) (R·Placement .site (now (right .entry .placement))) (S·Placement .site (now (result .entry))) (now (left .entry .store)) (now (right .entry .store)) (now (results .entry)) triple ⌝ }
 {
     let first_row = first(sizes.order, triple.row);
     let past_row = past(sizes.rows, sizes.order, triple.row);
@@ -55,17 +54,7 @@ pub fn tile_product<L: Placement, R: Placement, S: Placement, E: Kind + Copy>(
     for row in first_row..past_row {
         for column in first_column..past_column {
             let cell = cell_at(result, row, column);
-            results[cell] = entry_sum(
-                left,
-                lefts,
-                right,
-                rights,
-                row,
-                column,
-                from,
-                to,
-                results[cell],
-            );
+            results[cell] = entry_sum(left, right, row, column, from, to, results[cell]);
         }
     }
 }

@@ -13,6 +13,7 @@ use layouts::LayoutPlacement;
 use makers::named;
 use placement::Placement;
 use placement::Shape;
+use product::Held;
 use product::tile_product;
 use std::alloc::AllocError;
 use std::alloc::Global;
@@ -92,7 +93,15 @@ fn multiply<L: Placement, R: Placement, S: Placement, E: Kind + Copy>(
     };
     for n in 0..count(sizes) {
         if let Some(triple) = triple_at(sizes, n) {
-            tile_product(left, lefts, right, rights, result, results, sizes, triple);
+            let lent_left = Held {
+                placement: left,
+                store: lefts,
+            };
+            let lent_right = Held {
+                placement: right,
+                store: rights,
+            };
+            tile_product(lent_left, lent_right, result, results, sizes, triple);
         }
     }
     true
