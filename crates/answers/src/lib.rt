@@ -1,4 +1,6 @@
 // What the line program answers: descriptors for lines of named orders.
+#![tactic(auto)]
+
 mod describing;
 
 pub use describing::describe;

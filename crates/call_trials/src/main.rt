@@ -1,5 +1,7 @@
 // Makes random lists of calls on pairs of trios, and compares every answer and every cell with a second computation that
 // shares no code with the library's trio, product and walk. Prints how often all agreed.
+#![tactic(auto)]
+
 mod grid;
 mod journeys;
 mod lists;

@@ -1,4 +1,6 @@
 // The calls of a trio as values, and what each answers and does.
+#![tactic(auto)]
+
 mod call;
 mod table;
 

@@ -1,4 +1,6 @@
 // Reads lines of named orders from standard input, and prints the descriptor of each.
+#![tactic(auto)]
+
 use std::io;
 use std::io::Read;
 

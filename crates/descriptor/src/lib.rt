@@ -1,4 +1,6 @@
 // Descriptors: the bytes by which sites tell each other a layout.
+#![tactic(auto)]
+
 mod exchange;
 
 pub use decoding::Fault;

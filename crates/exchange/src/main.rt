@@ -1,5 +1,7 @@
 // A timetable office and a freight router keep the same tables under two placements, exchange them, and make the same
 // products. The program prints what each does and is told, and whether the choice of a placement shows in any answer.
+#![tactic(auto)]
+
 mod failure;
 mod letter;
 mod network;

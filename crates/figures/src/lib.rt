@@ -1,4 +1,6 @@
 // The known figures in one list.
+#![tactic(auto)]
+
 ghost use Rattle.std.specs.Prelude.{◌≡◌, ℕ};
 ghost use Rattle.figures.specs.Figures.{Figures};
 

@@ -1,4 +1,6 @@
 // Kinds of element: what an entry of a table may be.
+#![tactic(auto)]
+
 mod connection;
 mod count;
 mod kind;

@@ -1,4 +1,6 @@
 // The laws of the product of two tables, for every kind of element and in whatever order the tiles are visited.
+#![tactic(auto)]
+
 ghost use Rattle.std.specs.Prelude.{◌≡◌};
 ghost use Rattle.laws.specs.Products.{Adds, ProductLaw, EntryLaw, PartLaw};
 ghost use Rattle.laws.specs.Stores.{StoreLaw, RunLaw, SumsLaw};

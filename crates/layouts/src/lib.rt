@@ -1,4 +1,6 @@
 // The layouts: placements by masks, by a row stride and by a column stride, and the choice of the three.
+#![tactic(auto)]
+
 mod layout;
 mod layout_placement;
 

@@ -1,4 +1,6 @@
 // A line program reads bytes: its lines, and the requests that they spell.
+#![tactic(auto)]
+
 mod line;
 mod request;
 

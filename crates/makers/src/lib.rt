@@ -1,4 +1,6 @@
 // Makers: the one layout for given masks, and for a given stride.
+#![tactic(auto)]
+
 mod masks;
 mod strides;
 

@@ -1,9 +1,9 @@
 // From masks.
 ghost use Rattle.std.specs.Prelude.{◌≡◌, ℕ, ◌+◌, ◌^◌, ◌≤◌, count_ones};
-ghost use Rattle.fields.specs.Fields.{spread as spread-of};
+ghost use Rattle.fields.specs.Fields.{spread as spread_of};
 ghost use Rattle.by_masks.specs.Layouts.{masks_plan};
 ghost use Rattle.plans.specs.Plans.{site_of};
-ghost use Rattle.makers.specs.Makers.{planned, Places, shaped, lowest as lowest-of, from_masks};
+ghost use Rattle.makers.specs.Makers.{planned, Places, shaped, lowest as lowest_of, from_masks};
 
 use layouts::Masks;
 use masked::{Refusal, spread, width};
@@ -19,7 +19,7 @@ pub(crate) fn is_allowed(shape: Shape) -> bool
 // The lowest `count` one-bits of the mask, which has that many.
 fn lowest(count: u32, mask: u32) -> u32
     requires { (count ≤ 12) × (count ≤ count_ones mask) }
-    ensures { result ≡ lowest-of count mask }
+    ensures { result ≡ lowest_of count mask }
 {
     spread((1 << count) - 1, mask).unwrap()
 }
@@ -28,7 +28,7 @@ fn lowest(count: u32, mask: u32) -> u32
 // column have binary digits, and only kept bits are judged.
 pub fn from_masks(shape: Shape, row_mask: u32, column_mask: u32) -> Result<Masks, Refusal>
     ensures plan { planned masks_plan result ≡ from_masks shape.rows shape.columns row_mask column_mask }
-    ensures places { Places (λ m. (site_of (masks_plan m)).cell) (λ i j. spread-of i row_mask + spread-of j column_mask) shape.rows shape.columns result }
+    ensures places { Places (λ m. (site_of (masks_plan m)).cell) (λ i j. spread_of i row_mask + spread_of j column_mask) shape.rows shape.columns result }
 {
     if !is_allowed(shape) {
         return Err(Refusal::Shape);

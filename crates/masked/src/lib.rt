@@ -1,4 +1,6 @@
 // Numbers under a mask: the bits of a number, put at the one-bits of a mask.
+#![tactic(auto)]
+
 mod arithmetic;
 mod dilation;
 mod field;

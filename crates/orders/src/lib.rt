@@ -1,4 +1,6 @@
 // The layouts of the named orders.
+#![tactic(auto)]
+
 mod orders;
 
 pub use orders::named;

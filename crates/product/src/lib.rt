@@ -1,4 +1,6 @@
 // The product of one tile: generic loops over the lent stores of three tables.
+#![tactic(auto)]
+
 mod entries;
 mod tile;
 

@@ -1,4 +1,6 @@
 // Lists of calls as values, their replay on a trio, and the promise that holds of every one.
+#![tactic(auto)]
+
 mod both;
 mod making;
 mod replaying;

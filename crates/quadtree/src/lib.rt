@@ -1,4 +1,6 @@
 // Blocks of a quadtree, and the numbers by which they go.
+#![tactic(auto)]
+
 mod block;
 
 pub use block::Block;

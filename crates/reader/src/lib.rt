@@ -1,4 +1,6 @@
 // The reader of descriptors.
+#![tactic(auto)]
+
 mod reader;
 
 pub use reader::read;

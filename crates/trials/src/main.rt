@@ -1,4 +1,6 @@
 // Runs the library against computations of its own, and prints how often the two agree.
+#![tactic(auto)]
+
 mod placements;
 mod products;
 mod readings;

@@ -1,4 +1,6 @@
 // A trio of tables over any three placements: idle, or a run that makes their product tile by tile.
+#![tactic(auto)]
+
 mod resting;
 mod running;
 mod stores;

@@ -1,4 +1,6 @@
 // The order in which the tiles of a matrix product are visited.
+#![tactic(auto)]
+
 mod place;
 mod sizes;
 

@@ -1,6 +1,6 @@
 // The sizes of a product, its tiles, and how many there are.
 ghost use Rattle.std.specs.Prelude.{◌≡◌, ◌≤◌, true, length};
-ghost use Rattle.walk.specs.Walks.{Walks, Least, least_height, height_of, allowed, reflected, walk_of, all_tiles, tiles_of, side as is-side};
+ghost use Rattle.walk.specs.Walks.{Walks, Least, least_height, height_of, allowed, reflected, walk_of, all_tiles, tiles_of, side as side_of};
 
 // A tile of the product: its rows begin at row × 2^t, its columns at column × 2^t and its middle
 // indices at middle × 2^t, where t is the tile order, and each runs over 2^t, cut at the edge.
@@ -26,7 +26,7 @@ const LARGEST_ORDER: u32 = 12;
 
 // Whether a side is from 1 to 4,096.
 fn side_allowed(side: u32) -> bool
-    ensures { result ≡ is-side side }
+    ensures { result ≡ side_of side }
 {
     1 <= side && side <= LARGEST_SIDE
 }

@@ -1,4 +1,6 @@
 // The writer of descriptors.
+#![tactic(auto)]
+
 mod number;
 mod writer;
 
