@@ -40,8 +40,8 @@ pub trait Placement {
 // How many cells below the span have no owner, told at once: no two entries have one cell, so they are what the entries
 // leave of the span.
 pub fn idle<P: Placement>(placement: &P) -> u32
-    ensures value { result ≡ idle_of (site placement.now) }
-    ensures total { result + (site placement.now).rows * (site placement.now).columns ≡ (site placement.now).span }
+    ensures value { result ≡ idle_of (P.site placement.now) }
+    ensures total { result + (P.site placement.now).rows * (P.site placement.now).columns ≡ (P.site placement.now).span }
 {
     let shape = placement.shape();
     placement.span() - shape.rows * shape.columns

@@ -8,10 +8,10 @@ use placement::Placement;
 
 // The cell of an entry inside the table.
 pub(crate) fn cell_at<P: Placement>(placement: &P, row: u32, column: u32) -> usize
-    requires row_bound { row < (site placement.now).rows }
-    requires column_bound { column < (site placement.now).columns }
-    ensures value { result ≡ (site placement.now).cell row column }
-    ensures below { result < (site placement.now).span }
+    requires row_bound { row < (P.site placement.now).rows }
+    requires column_bound { column < (P.site placement.now).columns }
+    ensures value { result ≡ (P.site placement.now).cell row column }
+    ensures below { result < (P.site placement.now).span }
 {
     placement.address(row, column).unwrap() as usize
 }
@@ -25,10 +25,10 @@ pub struct Held<'p, 's, P, E> {
 
 // The entry of a table at a row and a column inside.
 fn entry_at<P: Placement, E: Kind + Copy>(table: Held<P, E>, row: u32, column: u32) -> E
-    requires row_bound { row < (site table.placement.now).rows }
-    requires column_bound { column < (site table.placement.now).columns }
-    requires placement_in_bounds { (site table.placement.now).span ≤ length table.store.now }
-    ensures { result ≡ entry_of (site table.entry.placement.now) nought table.entry.store.now row column }
+    requires row_bound { row < (P.site table.placement.now).rows }
+    requires column_bound { column < (P.site table.placement.now).columns }
+    requires placement_in_bounds { (P.site table.placement.now).span ≤ length table.store.now }
+    ensures { result ≡ entry_of (P.site table.entry.placement.now) nought table.entry.store.now row column }
 {
     table.store[cell_at(table.placement, row, column)]
 }
@@ -51,14 +51,14 @@ pub(crate) fn entry_sum<L: Placement, R: Placement, E: Kind + Copy>(
     to: u32,
     entry: E,
 ) -> E
-    requires row { row < (L.Placement.site left.placement.now).rows }
-    requires column { column < (R.Placement.site right.placement.now).columns }
+    requires row { row < (L.site left.placement.now).rows }
+    requires column { column < (R.site right.placement.now).columns }
     requires order { from ≤ to }
-    requires left { to ≤ (L.Placement.site left.placement.now).columns }
-    requires right { to ≤ (R.Placement.site right.placement.now).rows }
-    requires lefts { (L.Placement.site left.placement.now).span ≤ length left.store.now }
-    requires rights { (R.Placement.site right.placement.now).span ≤ length right.store.now }
-    ensures { result ≡ added_between joined entry (stored_terms E.Kind (L.Placement.site left.entry.placement.now) (R.Placement.site right.entry.placement.now) left.entry.store.now right.entry.store.now row column) from to }
+    requires left { to ≤ (L.site left.placement.now).columns }
+    requires right { to ≤ (R.site right.placement.now).rows }
+    requires lefts { (L.site left.placement.now).span ≤ length left.store.now }
+    requires rights { (R.site right.placement.now).span ≤ length right.store.now }
+    ensures { result ≡ added_between joined entry (stored_terms E.Kind (L.site left.entry.placement.now) (R.site right.entry.placement.now) left.entry.store.now right.entry.store.now row column) from to }
 {
     let mut sum = entry;
     for middle in from..to {

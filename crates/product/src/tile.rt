@@ -38,9 +38,9 @@ pub fn tile_product<L: Placement, R: Placement, S: Placement, E: Kind + Copy>(
     sizes: Sizes,
     triple: Triple,
 )
-    requires tables { Tables sizes (L.Placement.site left.placement.now) (R.Placement.site right.placement.now) (S.Placement.site res.now) left.store.now right.store.now results.old }
+    requires tables { Tables sizes (L.site left.placement.now) (R.site right.placement.now) (S.site res.now) left.store.now right.store.now results.old }
     requires triple { Begins sizes triple }
-    ensures { results.new ≡ tile_stored E.Kind sizes (L.Placement.site left.entry.placement.now) (R.Placement.site right.entry.placement.now) (S.Placement.site res.now) left.entry.store.now right.entry.store.now results.old triple }
+    ensures { results.new ≡ tile_stored E.Kind sizes (L.site left.entry.placement.now) (R.site right.entry.placement.now) (S.site res.now) left.entry.store.now right.entry.store.now results.old triple }
 {
     let first_row = first(sizes.order, triple.row);
     let past_row = past(sizes.rows, sizes.order, triple.row);

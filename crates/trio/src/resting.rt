@@ -206,9 +206,9 @@ fn put_entry<P: Placement, E: Kind + Copy>(
     column: u32,
     value: E,
 ) -> Result<(), Refusal>
-    requires { (site placement.now).span ≤ length store.old }
-    ensures answer { result ≡ (if held_in (site placement.now) row column then Ok tt else Err Outside) }
-    ensures cells { store.new ≡ (if held_in (site placement.now) row column then slice_set store.old ((site placement.now).cell row column) value else store.old) }
+    requires { (P.site placement.now).span ≤ length store.old }
+    ensures answer { result ≡ (if held_in (P.site placement.now) row column then Ok tt else Err Outside) }
+    ensures cells { store.new ≡ (if held_in (P.site placement.now) row column then slice_set store.old ((P.site placement.now).cell row column) value else store.old) }
 {
     let cell = placement.address(row, column)?;
     store[cell as usize] = value;
@@ -222,8 +222,8 @@ fn get_entry<P: Placement, E: Kind + Copy>(
     row: u32,
     column: u32,
 ) -> Result<E, Refusal>
-    requires { (site placement.now).span ≤ length store.now }
-    ensures { result ≡ (if held_in (site placement.now) row column then Ok (entry_of (site placement.now) nought store.now row column) else Err Outside) }
+    requires { (P.site placement.now).span ≤ length store.now }
+    ensures { result ≡ (if held_in (P.site placement.now) row column then Ok (entry_of (P.site placement.now) nought store.now row column) else Err Outside) }
 {
     let cell = placement.address(row, column)?;
     Ok(store[cell as usize])
@@ -231,8 +231,8 @@ fn get_entry<P: Placement, E: Kind + Copy>(
 
 // Sets all entries of a table to zero.
 fn clear_table<P: Placement, E: Kind + Copy>(placement: &P, store: &mut [E])
-    requires { (site placement.now).span ≤ length store.old }
-    ensures { store.new ≡ stored (site placement.now) (λ _ _. nought) store.old }
+    requires { (P.site placement.now).span ≤ length store.old }
+    ensures { store.new ≡ stored (P.site placement.now) (λ _ _. nought) store.old }
 {
     let shape = placement.shape();
     for row in 0..shape.rows {
@@ -273,10 +273,10 @@ fn copy_table<P: Placement, Q: Placement, E: Kind + Copy>(
     entries: &[E],
     transposed: bool,
 ) -> Result<(), Refusal>
-    requires placement_in_bounds { (P.Placement.site placement.now).span ≤ length store.old }
-    requires source_in_bounds { (Q.Placement.site source.now).span ≤ length entries.now }
-    ensures answer { result ≡ (if copy_can transposed (P.Placement.site placement.now) (Q.Placement.site source.now) then Ok tt else Err Mismatch) }
-    ensures cells { store.new ≡ (if copy_can transposed (P.Placement.site placement.now) (Q.Placement.site source.now) then stored (P.Placement.site placement.now) (turned transposed (entry_of (Q.Placement.site source.now) nought entries.now)) store.old else store.old) }
+    requires placement_in_bounds { (P.site placement.now).span ≤ length store.old }
+    requires source_in_bounds { (Q.site source.now).span ≤ length entries.now }
+    ensures answer { result ≡ (if copy_can transposed (P.site placement.now) (Q.site source.now) then Ok tt else Err Mismatch) }
+    ensures cells { store.new ≡ (if copy_can transposed (P.site placement.now) (Q.site source.now) then stored (P.site placement.now) (turned transposed (entry_of (Q.site source.now) nought entries.now)) store.old else store.old) }
 {
     let shape = placement.shape();
     if !are_fitting(shape, source.shape(), transposed) {

@@ -107,10 +107,10 @@ fn make_products<L: Placement, R: Placement, S: Placement, E: Kind + Copy>(
     from: u64,
     to: u64,
 )
-    requires tables { Tables sizes (L.Placement.site left.placement.now) (R.Placement.site right.placement.now) (S.Placement.site res.now) left.store.now right.store.now results.old }
+    requires tables { Tables sizes (L.site left.placement.now) (R.site right.placement.now) (S.site res.now) left.store.now right.store.now results.old }
     requires order { from ≤ to }
     requires within { to ≤ max from (length (walk_of sizes)) }
-    ensures { results.new ≡ run_stored E.Kind sizes (L.Placement.site left.entry.placement.now) (R.Placement.site right.entry.placement.now) (S.Placement.site res.now) left.entry.store.now right.entry.store.now results.old (take (to - from) (drop from (walk_of sizes))) }
+    ensures { results.new ≡ run_stored E.Kind sizes (L.site left.entry.placement.now) (R.site right.entry.placement.now) (S.site res.now) left.entry.store.now right.entry.store.now results.old (take (to - from) (drop from (walk_of sizes))) }
 {
     for n in from..to {
         let triple = triple_at(sizes, n).unwrap();

@@ -13,7 +13,7 @@ pub(crate) fn are_long<L: Placement, R: Placement, S: Placement, E>(
     rights: &[E],
     results: &[E],
 ) -> bool
-    ensures { result ≡ all_long (trio (L.Placement.site left.now) (R.Placement.site right.now) (S.Placement.site res.now)) lefts.now rights.now results.now }
+    ensures { result ≡ all_long (trio (L.site left.now) (R.site right.now) (S.site res.now)) lefts.now rights.now results.now }
 {
     left.span() as usize <= lefts.len()
         && right.span() as usize <= rights.len()

@@ -45,8 +45,8 @@ fn size(grid: Grid, height: u32, cube: Triple) -> u64
 
 // The child of a cube: each number is followed by a bit.
 fn child(cube: Triple, row: u32, column: u32, middle: u32) -> Triple
-    requires row_bound { (cube.row ≤ 4096) × ((cube.column ≤ 4096) × (cube.middle ≤ 4096)) }
-    requires row_bound_2 { (row ≤ 1) × ((column ≤ 1) × (middle ≤ 1)) }
+    requires cube_in_bounds { (cube.row ≤ 4096) × ((cube.column ≤ 4096) × (cube.middle ≤ 4096)) }
+    requires bits_in_bounds { (row ≤ 1) × ((column ≤ 1) × (middle ≤ 1)) }
     ensures { result ≡ child_of cube row column middle }
 {
     Triple {

@@ -2,8 +2,8 @@ use Rattle.std.proofs.Common.{◌≡◌, ◌*◌, arith}
 use Rattle.placement.proofs.Cells.{idle_total}
 use Rattle.placement.proofs.idle.Goals as goal
 
-pub overflow-sub-result : goal.overflow-sub-result
-overflow-sub-result g c =
+pub overflow_sub-result : goal.overflow_sub-result
+overflow_sub-result g c =
     let s = g.P.Placement.site c.args.placement.now in
     let t = idle_total s (g.met.P.Placement.lawful c.args.placement.now) in
     let e : c.shape-shape.result.rows * c.shape-shape.result.columns ≡ s.rows * s.columns =

@@ -8,8 +8,8 @@ loop-group-init c = so_far_none c.args.input.now c.args.at
 pub returns-then-next-input : goal.returns-then-next-input
 returns-then-next-input c = so_far_ended _ _ _ _ _ c.loop-group.invariant c.loop-group-test.true c.if-next-input.true
 
-pub overflow-add-value : goal.overflow-add-value
-overflow-add-value c = omega (arith, group_whole c.loop-group.value c.from-byte.result c.loop-group.group c.loop-group-test.true c.loop-group.invariant.small)
+pub overflow_add-value : goal.overflow_add-value
+overflow_add-value c = omega (arith, group_whole c.loop-group.value c.from-byte.result c.loop-group.group c.loop-group-test.true c.loop-group.invariant.small)
 
 pub returns-then-group-gt0 : goal.returns-then-group-gt0
 returns-then-group-gt0 c =

@@ -15,7 +15,7 @@ returns-in-Err c = record {
 
 pub returns-in-Err-read : goal.returns-in-Err-read
 returns-in-Err-read c = record {
-  answer = compared_right c.args.left.now c.args.right.now (layout_plan c.in-default.field-0) c.in-Err-read.fault c.in-default.ensures.answer c.in-Err-read.ensures.answer;
+  answer = compared_right c.args.left.now c.args.right.now (layout_plan c.in_default.field-0) c.in-Err-read.fault c.in_default.ensures.answer c.in-Err-read.ensures.answer;
   law = one_form;
 }
 
@@ -24,6 +24,6 @@ returns c =
     let left : Bytes c.args.left.now = search rules in
     let right : Bytes c.args.right.now = search rules in
     record {
-      answer = compared_both c.args.left.now c.args.right.now (layout_plan c.in-default.field-0) (layout_plan c.in-default-read.field-0) c.eq.result left right c.in-default.ensures.answer c.in-default-read.ensures.answer (slice_eq-Decides Decides-eqb c.args.left.now c.args.right.now c.eq.result c.eq.ensures);
+      answer = compared_both c.args.left.now c.args.right.now (layout_plan c.in_default.field-0) (layout_plan c.in_default-read.field-0) c.eq.result left right c.in_default.ensures.answer c.in_default-read.ensures.answer (slice_eq-Decides Decides-eqb c.args.left.now c.args.right.now c.eq.result c.eq.ensures);
       law = one_form;
     }

@@ -4,14 +4,14 @@ use Rattle.std.proofs.lemmas.List.{take_all}
 use Rattle.lines.proofs.Numbers.{digit_of, value_room, value_more}
 use Rattle.lines.proofs.request.value.Goals as goal
 
-pub overflow-mul-n : goal.overflow-mul-n
-overflow-mul-n c = record { fits = omega (arith, c.loop-d.invariant, value_room _ _ c.requires.all c.requires.short c.loop-d-test.true) }
+pub overflow_mul-n : goal.overflow_mul-n
+overflow_mul-n c = record { fits = omega (arith, c.loop-d.invariant, value_room _ _ c.requires.all c.requires.short c.loop-d-test.true) }
 
-pub overflow-sub-d : goal.overflow-sub-d
-overflow-sub-d c = (digit_of _ _ c.requires.all c.loop-d-test.true).0
+pub overflow_sub-d : goal.overflow_sub-d
+overflow_sub-d c = (digit_of _ _ c.requires.all c.loop-d-test.true).0
 
-pub overflow-add-n : goal.overflow-add-n
-overflow-add-n c = record { fits = omega (arith, c.loop-d.invariant, value_room _ _ c.requires.all c.requires.short c.loop-d-test.true, (digit_of _ _ c.requires.all c.loop-d-test.true).1) }
+pub overflow_add-n : goal.overflow_add-n
+overflow_add-n c = record { fits = omega (arith, c.loop-d.invariant, value_room _ _ c.requires.all c.requires.short c.loop-d-test.true, (digit_of _ _ c.requires.all c.loop-d-test.true).1) }
 
 pub loop-d-preserved : goal.loop-d-preserved
 loop-d-preserved c = omega (arith, c.loop-d.invariant, value_more _ _ c.loop-d-test.true)

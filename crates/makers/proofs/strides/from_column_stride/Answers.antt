@@ -6,41 +6,41 @@ use Rattle.makers.specs.Makers.{shaped}
 use Rattle.makers.proofs.Kept.{shaped_means}
 use Rattle.makers.proofs.Strided.{side_small, ColumnMade, column_made, stride_made}
 use Rattle.makers.proofs.strides.from_column_stride.Goals as goal
-use Rattle.makers.proofs.strides.from_column_stride.Goals.{After-side-bits, then-is-power-of-two-via-then-is-power-of-two, then-is-power-of-two-via-else-is-power-of-two+then-shape-eq1}
+use Rattle.makers.proofs.strides.from_column_stride.Goals.{After-side_bits, then-is_power_of_two-via-then-is_power_of_two, then-is_power_of_two-via-else-is_power_of_two+then-shape-eq1}
 
-pub overflow-mul-column-mask : goal.overflow-mul-column-mask
-overflow-mul-column-mask c =
-    let h : shaped c.args.shape.rows c.args.shape.columns ≡ true = sym c.if-not-is-allowed.ensures in
+pub overflow_mul-column_mask : goal.overflow_mul-column_mask
+overflow_mul-column_mask c =
+    let h : shaped c.args.shape.rows c.args.shape.columns ≡ true = sym c.if-not-is_allowed.ensures in
     let small = side_small c.args.shape.columns (shaped_means c.args.shape.rows c.args.shape.columns h).1 in
-    omega (arith, mul-le c.side-bits.result c.args.stride 4095 4096 (omega (arith, c.side-bits.ensures)) (omega arith))
+    omega (arith, mul-le c.side_bits.result c.args.stride 4095 4096 (omega (arith, c.side_bits.ensures)) (omega arith))
 
 -- masks can say the stride
-can : (c : After-side-bits) → (ones c.args.stride ≡ 1) ⊎ (c.args.shape.columns ≡ 1)
+can : (c : After-side_bits) → (ones c.args.stride ≡ 1) ⊎ (c.args.shape.columns ≡ 1)
 can c =
-    elim c.then-is-power-of-two.branch [
-      | then-is-power-of-two-via-then-is-power-of-two w ↦ inl (eqb-true (ones c.args.stride) 1 (sym c.is-power-of-two.ensures ∙ w.if-is-power-of-two.true))
-      | then-is-power-of-two-via-else-is-power-of-two+then-shape-eq1 w ↦ inr w.if-shape-eq1.true
+    elim c.then-is_power_of_two.branch [
+      | then-is_power_of_two-via-then-is_power_of_two w ↦ inl (eqb-true (ones c.args.stride) 1 (sym c.is_power_of_two.ensures ∙ w.if-is_power_of_two.true))
+      | then-is_power_of_two-via-else-is_power_of_two+then-shape-eq1 w ↦ inr w.if-shape-eq1.true
     ]
 
-all : (c : After-side-bits) → ColumnMade c.args.shape.rows c.args.shape.columns c.args.stride c.side-bits-row-mask.result (c.side-bits.result * c.args.stride)
+all : (c : After-side_bits) → ColumnMade c.args.shape.rows c.args.shape.columns c.args.stride c.side_bits-row_mask.result (c.side_bits.result * c.args.stride)
 all c =
     column_made c.args.shape.rows c.args.shape.columns c.args.stride _ _
-    (sym c.if-not-is-allowed.ensures) c.if-stride-shape.false c.if-stride-gt4096.false (can c)
-    c.side-bits-row-mask.ensures c.side-bits.ensures
+    (sym c.if-not-is_allowed.ensures) c.if-stride-shape.false c.if-stride-gt4096.false (can c)
+    c.side_bits-row_mask.ensures c.side_bits.ensures
 
-pub invariant-of-result : goal.invariant-of-result
-invariant-of-result c =
+pub invariant_of-result : goal.invariant_of-result
+invariant_of-result c =
     let f = (all c).fit in
-    (f.rows_side, (f.columns_side, (f.row_bits, (f.column_bits, (f.row_positions, (f.column_positions, (f.unshared, tt)))))))
+    record { tall = f.rows_side; broad = f.columns_side; rowbits = f.row_bits; columnbits = f.column_bits; rowplaces = f.row_positions; columnplaces = f.column_positions; unshared = f.unshared }
 
-pub returns-then-is-power-of-two : goal.returns-then-is-power-of-two
-returns-then-is-power-of-two c =
-    let m = all (goal.at.returns-then-is-power-of-two c).After-side-bits in
+pub returns-then-is_power_of_two : goal.returns-then-is_power_of_two
+returns-then-is_power_of_two c =
+    let m = all (goal.at.returns-then-is_power_of_two c).After-side_bits in
     record { plan = m.plan; places = m.places }
 
-pub invariant-of-result-2 : goal.invariant-of-result-2
-invariant-of-result-2 c =
-    let h : shaped c.args.shape.rows c.args.shape.columns ≡ true = sym c.if-not-is-allowed.ensures in
+pub invariant_of-result-2 : goal.invariant_of-result-2
+invariant_of-result-2 c =
+    let h : shaped c.args.shape.rows c.args.shape.columns ≡ true = sym c.if-not-is_allowed.ensures in
     let sides = shaped_means c.args.shape.rows c.args.shape.columns h in
-    let f = stride_made c.args.shape.rows c.args.shape.columns c.args.stride sides.0 sides.1 c.if-stride-shape.false c.if-stride-gt4096.false (sym c.if-is-power-of-two.ensures) c.if-shape-eq1.false in
-    (f.near_side, (f.stride_limit, (f.strided_side, (f.no_power, tt))))
+    let f = stride_made c.args.shape.rows c.args.shape.columns c.args.stride sides.0 sides.1 c.if-stride-shape.false c.if-stride-gt4096.false (sym c.if-is_power_of_two.ensures) c.if-shape-eq1.false in
+    record { near = f.near_side; limit = f.stride_limit; strided = f.strided_side; nopower = f.no_power }

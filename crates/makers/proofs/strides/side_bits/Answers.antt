@@ -3,11 +3,11 @@ use Rattle.std.proofs.lemmas.Nat.{one_shl, pow_pos}
 use Rattle.makers.proofs.Kept.{side_width}
 use Rattle.makers.proofs.strides.side_bits.Goals as goal
 
-pub overflow-shl-result : goal.overflow-shl-result
-overflow-shl-result c = omega (arith, side_width c.args.entries c.requires, c.width.ensures.value)
+pub overflow_shl-result : goal.overflow_shl-result
+overflow_shl-result c = omega (arith, side_width c.args.entries c.requires, c.width.ensures.value)
 
-pub overflow-sub-result : goal.overflow-sub-result
-overflow-sub-result c =
+pub overflow_sub-result : goal.overflow_sub-result
+overflow_sub-result c =
     let small : c.width.result < 32 = omega (arith, side_width c.args.entries c.requires, c.width.ensures.value) in
     let shifted = one_shl c.width.result 32 small in
     omega (arith, pow_pos c.width.result)

@@ -5,11 +5,11 @@ use Rattle.fields.proofs.Fields.{spread_le}
 use Rattle.fields.proofs.Dilations.{dilate_split}
 use Rattle.masked.proofs.dilation.dilate.Goals as goal
 
-pub overflow-mul-result : goal.overflow-mul-result
-overflow-mul-result c = let h = spread_le (c.args.n / 256) 0x5555 in omega arith
+pub overflow_mul-result : goal.overflow_mul-result
+overflow_mul-result c = let h = spread_le (c.args.n / 256) 0x5555 in omega arith
 
-pub overflow-add-result : goal.overflow-add-result
-overflow-add-result c =
+pub overflow_add-result : goal.overflow_add-result
+overflow_add-result c =
     let h = spread_le (c.args.n / 256) 0x5555 in
     let l = spread_le (c.args.n % 256) 0x5555 in
     omega arith

@@ -12,17 +12,17 @@ returns-then-v-mask c = record {
   law = undone c.args.mask (omega arith);
 }
 
-pub overflow-shl-out : goal.overflow-shl-out
-overflow-shl-out c = gather_place c.args.v c.args.mask _ _ _ _ (omega arith) c.if-left-eq1.true c.loop-left.invariant
+pub overflow_shl-out : goal.overflow_shl-out
+overflow_shl-out c = gather_place c.args.v c.args.mask _ _ _ _ (omega arith) c.if-left-eq1.true c.loop-left.invariant
 
-pub overflow-add-out : goal.overflow-add-out
-overflow-add-out c =
+pub overflow_add-out : goal.overflow_add-out
+overflow_add-out c =
     let next = gather_turn_odd c.args.v c.args.mask _ _ _ _ (omega arith) c.if-left-eq1.true c.loop-left.invariant in
     let fits = gather_fits c.args.v c.args.mask _ _ _ _ (omega arith) next in
     omega arith
 
-pub overflow-add-place : goal.overflow-add-place
-overflow-add-place c =
+pub overflow_add-place : goal.overflow_add-place
+overflow_add-place c =
     let place = gather_place c.args.v c.args.mask _ _ _ _ (omega arith) c.if-left-eq1.true c.loop-left.invariant in
     omega arith
 

@@ -19,11 +19,11 @@ loop-bits-init c =
     let w : width c.args.n ≤ ones c.args.mask = omega arith in
     (omega arith, below_width c.args.n (ones c.args.mask) w, omega arith)
 
-pub overflow-sub-rest : goal.overflow-sub-rest
-overflow-sub-rest c = omega (arith, some_left c.loop-bits.bits c.loop-bits.left c.loop-bits.invariant.1 (omega arith))
+pub overflow_sub-rest : goal.overflow_sub-rest
+overflow_sub-rest c = omega (arith, some_left c.loop-bits.bits c.loop-bits.left c.loop-bits.invariant.1 (omega arith))
 
-pub overflow-add-out : goal.overflow-add-out
-overflow-add-out c =
+pub overflow_add-out : goal.overflow_add-out
+overflow_add-out c =
     let next = spread_turn_one c.args.n c.args.mask _ _ _ (omega arith) c.if-bits-eq1.true c.loop-bits.invariant in
     let fits = spread_fits c.args.n c.args.mask _ _ _ (omega arith) next in
     omega arith

@@ -49,7 +49,7 @@ returns g c =
     record {
       first = c.play-first.ensures.made;
       second = c.play-second.ensures.made;
-      agree = agreed g.E.Kind (idle_trio g.L.Placement g.R.Placement g.S.Placement c.args.first) (idle_trio g.M.Placement g.N.Placement g.O.Placement c.args.second) c.args.lefts.now c.args.rights.now c.args.results.now c.args.other-lefts.now c.args.other-rights.now c.args.other-results.now c.args.calls.now (vec_items c.play-first.result.answers) (vec_items c.play-second.result.answers) (moment c.play-first.new.lefts c.play-first.new.rights c.play-first.new.results (state_mode c.play-first.result.trio)) (moment c.play-second.new.lefts c.play-second.new.rights c.play-second.new.results (state_mode c.play-second.result.trio))
+      agree = agreed g.E.Kind (idle_trio g.L.Placement g.R.Placement g.S.Placement c.args.first) (idle_trio g.M.Placement g.N.Placement g.O.Placement c.args.second) c.args.lefts.now c.args.rights.now c.args.results.now c.args.other_lefts.now c.args.other_rights.now c.args.other_results.now c.args.calls.now (vec_items c.play-first.result.answers) (vec_items c.play-second.result.answers) (moment c.play-first.new.lefts c.play-first.new.rights c.play-first.new.results (state_mode c.play-first.result.trio)) (moment c.play-second.new.lefts c.play-second.new.rights c.play-second.new.results (state_mode c.play-second.result.trio))
           w.alike c.play-first.ensures.made c.play-second.ensures.made;
       finished = (w.first.finished, w.second.finished);
       finishable = (w.first.finishable, w.second.finishable);

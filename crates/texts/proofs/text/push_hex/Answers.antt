@@ -7,15 +7,15 @@ use Rattle.texts.proofs.text.push_hex.Goals as goal
 pub loop-b-preserved : goal.loop-b-preserved
 loop-b-preserved c =
     let x = get_or c.args.bytes.now c.loop-b.b-index 0 in
-    let byte = (c.type-inv.bytes c.loop-b.b-index).fits in
+    let byte = (c.type_inv.bytes c.loop-b.b-index).fits in
     let old = string_bytes c.loop-b.out in
     let mid = string_bytes c.push.new.self in
     let new = string_bytes c.push-in-loop-b.new.self in
-    let first = c.in-ok-push.ensures in
-    let second = c.in-ok-push-2.ensures in
+    let first = c.in_ok-push.ensures in
+    let second = c.in_ok-push-2.ensures in
     hex_more (string_bytes c.args.out.now) c.args.bytes.now c.loop-b.b-index old mid {c = new} c.loop-b-test.true c.loop-b.invariant
-    (pushed old {new = mid} (x / 16) (omega arith) c.hex-digit.ensures first.ascii first.bytes)
-    (pushed mid {new = new} (x % 16) (omega arith) c.hex-digit-in-loop-b.ensures second.ascii second.bytes)
+    (pushed old {new = mid} (x / 16) (omega arith) c.hex_digit.ensures first.ascii first.bytes)
+    (pushed mid {new = new} (x % 16) (omega arith) c.hex_digit-in-loop-b.ensures second.ascii second.bytes)
 
 pub returns : goal.returns
 returns c = c.loop-b.invariant ∙ ap (λ l. string_bytes c.args.out.now ++ hex l) (take_all _ c.args.bytes.now c.loop-b-test.false)

@@ -6,17 +6,17 @@ use Rattle.walk.proofs.Rooms.{room_low}
 use Rattle.walk.proofs.Leads.{forward_rooms, forward_room, forward_leads, backward_rooms, backward_room, backward_leads}
 use Rattle.walk.proofs.place.+backward_forward.Goals as goal
 
-pub forward-only-triple-requires : goal.forward-only-triple-requires
-forward-only-triple-requires t c = subst (λ h. Room h c.args.cube) c.if-height-eq0.true c.requires
+pub forward-only_triple-requires : goal.forward-only_triple-requires
+forward-only_triple-requires t c = subst (λ h. Room h c.args.cube) c.if-height-eq0.true c.requires
 
 pub forward-returns-then-height-eq0 : goal.forward-returns-then-height-eq0
-forward-returns-then-height-eq0 t c = c.only-triple.ensures ∙ sym (forward_one c.args.grid c.args.height c.args.cube c.args.n c.if-height-eq0.true)
+forward-returns-then-height-eq0 t c = c.only_triple.ensures ∙ sym (forward_one c.args.grid c.args.height c.args.cube c.args.n c.if-height-eq0.true)
 
 pub forward-children-cubes-requires : goal.forward-children-cubes-requires
 forward-children-cubes-requires t c = let l = room_low c.args.height c.args.cube c.requires in (l.0, (l.1, l.2))
 
-pub forward-next-turn-requires : goal.forward-next-turn-requires
-forward-next-turn-requires t c = forward_rooms c.args.grid c.args.height (c.args.height - 1) (omega arith) c.args.cube c.args.n c.children-cubes.result c.children-cubes.ensures c.requires
+pub forward-next_turn-requires : goal.forward-next_turn-requires
+forward-next_turn-requires t c = forward_rooms c.args.grid c.args.height (c.args.height - 1) (omega arith) c.args.cube c.args.n c.children-cubes.result c.children-cubes.ensures c.requires
 
 pub forward-forward-requires : goal.forward-forward-requires
 forward-forward-requires t c =
@@ -38,17 +38,17 @@ pub forward-returns-in-Past : goal.forward-returns-in-Past
 forward-returns-in-Past t c =
     forward_leads c.args.grid c.args.height (c.args.height - 1) (omega arith) c.args.cube c.args.n c.children-cubes.result c.children-cubes.ensures Past c.in-Past.ensures _ refl
 
-pub backward-only-triple-requires : goal.backward-only-triple-requires
-backward-only-triple-requires t c = subst (λ h. Room h c.args.cube) c.if-height-eq0.true c.requires
+pub backward-only_triple-requires : goal.backward-only_triple-requires
+backward-only_triple-requires t c = subst (λ h. Room h c.args.cube) c.if-height-eq0.true c.requires
 
 pub backward-returns-then-height-eq0 : goal.backward-returns-then-height-eq0
-backward-returns-then-height-eq0 t c = c.only-triple.ensures ∙ sym (backward_one c.args.grid c.args.height c.args.cube c.args.n c.if-height-eq0.true)
+backward-returns-then-height-eq0 t c = c.only_triple.ensures ∙ sym (backward_one c.args.grid c.args.height c.args.cube c.args.n c.if-height-eq0.true)
 
 pub backward-children-cubes-requires : goal.backward-children-cubes-requires
 backward-children-cubes-requires t c = let l = room_low c.args.height c.args.cube c.requires in (l.0, (l.1, l.2))
 
-pub backward-next-turn-requires : goal.backward-next-turn-requires
-backward-next-turn-requires t c = backward_rooms c.args.grid c.args.height (c.args.height - 1) (omega arith) c.args.cube c.args.n c.reverse.new.self (c.reverse.ensures.after ∙ ap reverse c.children-cubes.ensures) c.requires
+pub backward-next_turn-requires : goal.backward-next_turn-requires
+backward-next_turn-requires t c = backward_rooms c.args.grid c.args.height (c.args.height - 1) (omega arith) c.args.cube c.args.n c.reverse.new.self (c.reverse.ensures.after ∙ ap reverse c.children-cubes.ensures) c.requires
 
 pub backward-forward-requires : goal.backward-forward-requires
 backward-forward-requires t c =

@@ -5,9 +5,9 @@ use Rattle.walk.specs.Steps.{Room}
 use Rattle.walk.proofs.Allowed.{walk_of_other, walk_of_walks, whole_walk, placed, bounds, root_room}
 use Rattle.walk.proofs.place.triple_at.Goals as goal
 
-pub returns-then-not-is-allowed : goal.returns-then-not-is-allowed
-returns-then-not-is-allowed c =
-    let is = sym (ap (λ ts. slice_get ts c.args.n) (walk_of_other c.args.sizes (sym c.if-not-is-allowed.ensures))) in
+pub returns-then-not-is_allowed : goal.returns-then-not-is_allowed
+returns-then-not-is_allowed c =
+    let is = sym (ap (λ ts. slice_get ts c.args.n) (walk_of_other c.args.sizes (sym c.if-not-is_allowed.ensures))) in
     record {
       value = is;
       place = placed c.args.sizes c.args.n None is;
@@ -15,21 +15,21 @@ returns-then-not-is-allowed c =
     }
 
 pub tiles-requires : goal.tiles-requires
-tiles-requires c = (bounds c.args.sizes (sym c.if-not-is-allowed.ensures)).order
+tiles-requires c = (bounds c.args.sizes (sym c.if-not-is_allowed.ensures)).order
 
 pub tiles-requires-2 : goal.tiles-requires-2
-tiles-requires-2 c = (bounds c.args.sizes (sym c.if-not-is-allowed.ensures)).order
+tiles-requires-2 c = (bounds c.args.sizes (sym c.if-not-is_allowed.ensures)).order
 
 pub tiles-requires-3 : goal.tiles-requires-3
-tiles-requires-3 c = (bounds c.args.sizes (sym c.if-not-is-allowed.ensures)).order
+tiles-requires-3 c = (bounds c.args.sizes (sym c.if-not-is_allowed.ensures)).order
 
 pub forward-requires : goal.forward-requires
 forward-requires c =
-    subst (λ h. Room h (triple 0 0 0)) (sym c.height.ensures.value) (root_room c.args.sizes (bounds c.args.sizes (sym c.if-not-is-allowed.ensures)))
+    subst (λ h. Room h (triple 0 0 0)) (sym c.height.ensures.value) (root_room c.args.sizes (bounds c.args.sizes (sym c.if-not-is_allowed.ensures)))
 
 pub returns : goal.returns
 returns c =
-    let all = whole_walk c.args.sizes c.tiles.result c.tiles-2.result c.tiles-3.result c.height.result (sym c.if-not-is-allowed.ensures) c.tiles.ensures c.tiles-2.ensures c.tiles-3.ensures c.height.ensures.value in
+    let all = whole_walk c.args.sizes c.tiles.result c.tiles-2.result c.tiles-3.result c.height.result (sym c.if-not-is_allowed.ensures) c.tiles.ensures c.tiles-2.ensures c.tiles-3.ensures c.height.ensures.value in
     let is = c.forward.ensures ∙ ap (λ ts. slice_get ts c.args.n) all in
     record {
       value = is;

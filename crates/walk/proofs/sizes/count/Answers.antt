@@ -5,9 +5,9 @@ use Rattle.walk.proofs.Once.{reflected_walks}
 use Rattle.walk.proofs.Allowed.{walk_of_other, length_walk_of, bounds, tiles_small, product_fits}
 use Rattle.walk.proofs.sizes.count.Goals as goal
 
-pub returns-then-not-is-allowed : goal.returns-then-not-is-allowed
-returns-then-not-is-allowed c =
-    let no : allowed c.args.sizes ≡ false = sym c.if-not-is-allowed.ensures in
+pub returns-then-not-is_allowed : goal.returns-then-not-is_allowed
+returns-then-not-is_allowed c =
+    let no : allowed c.args.sizes ≡ false = sym c.if-not-is_allowed.ensures in
     record {
       value = sym (ap length (walk_of_other c.args.sizes no));
       product = λ h. absurd (both_ways (allowed c.args.sizes) no h);
@@ -15,18 +15,18 @@ returns-then-not-is-allowed c =
     }
 
 pub tiles-rows-requires : goal.tiles-rows-requires
-tiles-rows-requires c = (bounds c.args.sizes (sym c.if-not-is-allowed.ensures)).order
+tiles-rows-requires c = (bounds c.args.sizes (sym c.if-not-is_allowed.ensures)).order
 
 pub tiles-columns-requires : goal.tiles-columns-requires
-tiles-columns-requires c = (bounds c.args.sizes (sym c.if-not-is-allowed.ensures)).order
+tiles-columns-requires c = (bounds c.args.sizes (sym c.if-not-is_allowed.ensures)).order
 
 pub tiles-middle-requires : goal.tiles-middle-requires
-tiles-middle-requires c = (bounds c.args.sizes (sym c.if-not-is-allowed.ensures)).order
+tiles-middle-requires c = (bounds c.args.sizes (sym c.if-not-is_allowed.ensures)).order
 
-pub overflow-mul-result-2 : goal.overflow-mul-result-2
-overflow-mul-result-2 c =
+pub overflow_mul-result-2 : goal.overflow_mul-result-2
+overflow_mul-result-2 c =
     let s = c.args.sizes in
-    let b = bounds s (sym c.if-not-is-allowed.ensures) in
+    let b = bounds s (sym c.if-not-is_allowed.ensures) in
     let x = tiles_small s.rows s.order b.rows in
     let y = tiles_small s.columns s.order b.columns in
     let z = tiles_small s.middle s.order b.middle in
@@ -37,7 +37,7 @@ pub returns : goal.returns
 returns c =
     let product : _ ≡ all_tiles c.args.sizes = rw (c.tiles-rows.ensures, c.tiles-columns.ensures, c.tiles-middle.ensures) in
     record {
-      value = product ∙ sym (length_walk_of c.args.sizes (sym c.if-not-is-allowed.ensures));
+      value = product ∙ sym (length_walk_of c.args.sizes (sym c.if-not-is_allowed.ensures));
       product = λ _. product;
       walks = reflected_walks c.args.sizes;
     }

@@ -5,6 +5,6 @@ use Rattle.walk.proofs.sizes.height.Goals as goal
 pub returns : goal.returns
 unfolding height_of least_height
 returns c = record {
-  value = simp (c.saturating-sub-2.ensures, c.width.ensures.value, c.saturating-sub.ensures, c.max-longest.ensures, c.max.ensures);
+  value = simp (c.saturating_sub-2.ensures, c.width.ensures.value, c.saturating_sub.ensures, c.max-longest.ensures, c.max.ensures);
   least = least_law c.args.sizes;
 }

@@ -2,10 +2,10 @@ use Rattle.std.proofs.Common.{rules}
 use Rattle.walk.specs.Walks.{allowed}
 use Rattle.walk.proofs.sizes.is_allowed.Goals as goal
 
-pub returns-then-side-allowed-3 : goal.returns-then-side-allowed-3
+pub returns-then-side_allowed-3 : goal.returns-then-side_allowed-3
 unfolding allowed
-returns-then-side-allowed-3 c = search rules
+returns-then-side_allowed-3 c = search rules
 
-pub returns-else-side-allowed-3 : goal.returns-else-side-allowed-3
+pub returns-else-side_allowed-3 : goal.returns-else-side_allowed-3
 unfolding allowed
-returns-else-side-allowed-3 c = search rules
+returns-else-side_allowed-3 c = search rules

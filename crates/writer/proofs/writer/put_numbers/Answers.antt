@@ -5,8 +5,8 @@ use Rattle.writer.proofs.Forms.{form_more, form_front}
 use Rattle.writer.proofs.Writes.{Done, done_more, done_as}
 use Rattle.writer.proofs.writer.put_numbers.Goals as goal
 
-pub put-number-end-requires : goal.put-number-end-requires
-put-number-end-requires c =
+pub put_number-end-requires : goal.put_number-end-requires
+put_number-end-requires c =
     let i = c.loop-n.n-index in
     let ns = c.args.numbers.now in
     let long = ap length (form_more ns i c.loop-n-test.true) ∙ length-append (in_form (take i ns)) (groups (get_or ns i 0)) in
@@ -18,7 +18,7 @@ loop-n-preserved c =
     let i = c.loop-n.n-index in
     let ns = c.args.numbers.now in
     done_as c.args.bytes.now _ _ _ _ (sym (form_more ns i c.loop-n-test.true))
-    (done_more c.args.bytes.now (in_form (take i ns)) (groups (get_or ns i 0)) c.loop-n.bytes c.put-number-end.new.bytes c.loop-n.end c.put-number-end.result c.loop-n.invariant c.put-number-end.ensures.end c.put-number-end.ensures.after)
+    (done_more c.args.bytes.now (in_form (take i ns)) (groups (get_or ns i 0)) c.loop-n.bytes c.put_number-end.new.bytes c.loop-n.end c.put_number-end.result c.loop-n.invariant c.put_number-end.ensures.end c.put_number-end.ensures.after)
 
 pub returns : goal.returns
 returns c =

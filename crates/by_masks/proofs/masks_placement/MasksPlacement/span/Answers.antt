@@ -2,28 +2,28 @@ use Rattle.std.proofs.Common.{◌≡◌, ◌+◌, ◌-◌, ◌^◌, ◌<◌, ari
 use Rattle.by_masks.proofs.Calls.{row_accepted, row_told, column_accepted, column_told, parts_small}
 use Rattle.by_masks.proofs.masks_placement.MasksPlacement.span.Goals as goal
 
-pub unwrap-row-part-requires : goal.unwrap-row-part-requires
-unwrap-row-part-requires c = row_accepted c.args.self.now _ (omega (arith, c.args.self.now.tall.0)) _ c.spread.ensures.value
+pub unwrap-row_part-requires : goal.unwrap-row_part-requires
+unwrap-row_part-requires c = row_accepted c.args.self.now _ (omega (arith, c.args.self.now.tall.0)) _ c.spread.ensures.value
 
-pub unwrap-column-part-requires : goal.unwrap-column-part-requires
-unwrap-column-part-requires c = column_accepted c.args.self.now _ (omega (arith, c.args.self.now.broad.0)) _ c.spread-2.ensures.value
+pub unwrap-column_part-requires : goal.unwrap-column_part-requires
+unwrap-column_part-requires c = column_accepted c.args.self.now _ (omega (arith, c.args.self.now.broad.0)) _ c.spread-2.ensures.value
 
-small : (c : goal.After-unwrap-column-part) → c.unwrap-row-part.result + c.unwrap-column-part.result < 2 ^ 24
+small : (c : goal.After-unwrap-column_part) → c.unwrap-row_part.result + c.unwrap-column_part.result < 2 ^ 24
 small c =
     let m = c.args.self.now in
     parts_small m (m.shape.rows - 1) (m.shape.columns - 1) _ _
-    (row_told m _ (omega (arith, m.tall.0)) _ c.spread.ensures.value _ c.unwrap-row-part.ensures)
-    (column_told m _ (omega (arith, m.broad.0)) _ c.spread-2.ensures.value _ c.unwrap-column-part.ensures)
+    (row_told m _ (omega (arith, m.tall.0)) _ c.spread.ensures.value _ c.unwrap-row_part.ensures)
+    (column_told m _ (omega (arith, m.broad.0)) _ c.spread-2.ensures.value _ c.unwrap-column_part.ensures)
 
-pub overflow-add-result : goal.overflow-add-result
-overflow-add-result c = omega (arith, small c)
+pub overflow_add-result : goal.overflow_add-result
+overflow_add-result c = omega (arith, small c)
 
-pub overflow-add-result-2 : goal.overflow-add-result-2
-overflow-add-result-2 c = omega (arith, small c)
+pub overflow_add-result-2 : goal.overflow_add-result-2
+overflow_add-result-2 c = omega (arith, small c)
 
 pub returns : goal.returns
 returns c =
     let m = c.args.self.now in
-    let i = row_told m (m.shape.rows - 1) (omega (arith, m.tall.0)) _ c.spread.ensures.value _ c.unwrap-row-part.ensures in
-    let j = column_told m (m.shape.columns - 1) (omega (arith, m.broad.0)) _ c.spread-2.ensures.value _ c.unwrap-column-part.ensures in
+    let i = row_told m (m.shape.rows - 1) (omega (arith, m.tall.0)) _ c.spread.ensures.value _ c.unwrap-row_part.ensures in
+    let j = column_told m (m.shape.columns - 1) (omega (arith, m.broad.0)) _ c.spread-2.ensures.value _ c.unwrap-column_part.ensures in
     omega arith

@@ -2,4 +2,4 @@ use Rattle.kinds.specs.Elements.{time_same}
 use Rattle.kinds.proofs.meanings.TravelTimeKind.times.Goals as goal
 
 pub returns : goal.returns
-returns c = time_same _ _ c.saturating-add.ensures
+returns c = time_same _ _ c.saturating_add.ensures
