@@ -23,7 +23,7 @@ pub fn laws_of_a_kind<E>() -> u8
 // entry's old value plus the full sum of its terms.
 pub fn laws_kept<E: Kind>() -> u8
     ensures answer { result ≡ 3 }
-    ensures laws { Adds joined nought }
+    ensures laws { Adds E.joined E.nought }
     ensures run { RunLaw E.Kind }
     ensures sums { SumsLaw E.Kind }
 {

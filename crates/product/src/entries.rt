@@ -8,8 +8,8 @@ use placement::Placement;
 
 // The cell of an entry inside the table.
 pub(crate) fn cell_at<P: Placement>(placement: &P, row: u32, column: u32) -> usize
-    requires row_bound { row < (P.site placement.now).rows }
-    requires column_bound { column < (P.site placement.now).columns }
+    requires row { row < (P.site placement.now).rows }
+    requires column { column < (P.site placement.now).columns }
     ensures value { result ≡ (P.site placement.now).cell row column }
     ensures below { result < (P.site placement.now).span }
 {
@@ -25,17 +25,17 @@ pub struct Held<'p, 's, P, E> {
 
 // The entry of a table at a row and a column inside.
 fn entry_at<P: Placement, E: Kind + Copy>(table: Held<P, E>, row: u32, column: u32) -> E
-    requires row_bound { row < (P.site table.placement.now).rows }
-    requires column_bound { column < (P.site table.placement.now).columns }
-    requires placement_in_bounds { (P.site table.placement.now).span ≤ length table.store.now }
-    ensures { result ≡ entry_of (P.site table.entry.placement.now) nought table.entry.store.now row column }
+    requires row { row < (P.site table.placement.now).rows }
+    requires column { column < (P.site table.placement.now).columns }
+    requires long { (P.site table.placement.now).span ≤ length table.store.now }
+    ensures { result ≡ entry_of (P.site table.entry.placement.now) E.nought table.entry.store.now row column }
 {
     table.store[cell_at(table.placement, row, column)]
 }
 
 // What is there plus the next term, in this order.
 fn plus_term<E: Kind>(sum: E, a: E, b: E) -> E
-    ensures { result ≡ joined sum (chained a b) }
+    ensures { result ≡ E.joined sum (E.chained a b) }
 {
     sum.plus(a.times(b))
 }
@@ -58,7 +58,7 @@ pub(crate) fn entry_sum<L: Placement, R: Placement, E: Kind + Copy>(
     requires right { to ≤ (R.site right.placement.now).rows }
     requires lefts { (L.site left.placement.now).span ≤ length left.store.now }
     requires rights { (R.site right.placement.now).span ≤ length right.store.now }
-    ensures { result ≡ added_between joined entry (stored_terms E.Kind (L.site left.entry.placement.now) (R.site right.entry.placement.now) left.entry.store.now right.entry.store.now row column) from to }
+    ensures { result ≡ added_between E.joined entry (stored_terms E.Kind (L.site left.entry.placement.now) (R.site right.entry.placement.now) left.entry.store.now right.entry.store.now row column) from to }
 {
     let mut sum = entry;
     for middle in from..to {

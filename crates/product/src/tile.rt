@@ -11,8 +11,8 @@ use walk::{Sizes, Triple};
 
 // The first index that a tile covers.
 fn first(order: u32, tile: u32) -> u32
-    requires order_bound { order ≤ 12 }
-    requires order_bound_2 { tile * 2 ^ order ≤ 4096 }
+    requires order { order ≤ 12 }
+    requires tile { tile * 2 ^ order ≤ 4096 }
     ensures { result ≡ first_of order tile }
 {
     tile << order
@@ -20,8 +20,8 @@ fn first(order: u32, tile: u32) -> u32
 
 // The first index past a tile, which is cut at the side.
 fn past(side: u32, order: u32, tile: u32) -> u32
-    requires order_bound { order ≤ 12 }
-    requires order_bound_2 { tile * 2 ^ order ≤ 4096 }
+    requires order { order ≤ 12 }
+    requires tile { tile * 2 ^ order ≤ 4096 }
     ensures { result ≡ past_of side order tile }
 {
     side.min(first(order, tile) + (1 << order))

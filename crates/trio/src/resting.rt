@@ -223,7 +223,7 @@ fn get_entry<P: Placement, E: Kind + Copy>(
     column: u32,
 ) -> Result<E, Refusal>
     requires { (P.site placement.now).span ≤ length store.now }
-    ensures { result ≡ (if held_in (P.site placement.now) row column then Ok (entry_of (P.site placement.now) nought store.now row column) else Err Outside) }
+    ensures { result ≡ (if held_in (P.site placement.now) row column then Ok (entry_of (P.site placement.now) E.nought store.now row column) else Err Outside) }
 {
     let cell = placement.address(row, column)?;
     Ok(store[cell as usize])
@@ -232,7 +232,7 @@ fn get_entry<P: Placement, E: Kind + Copy>(
 // Sets all entries of a table to zero.
 fn clear_table<P: Placement, E: Kind + Copy>(placement: &P, store: &mut [E])
     requires { (P.site placement.now).span ≤ length store.old }
-    ensures { store.new ≡ stored (P.site placement.now) (λ _ _. nought) store.old }
+    ensures { store.new ≡ stored (P.site placement.now) (λ _ _. E.nought) store.old }
 {
     let shape = placement.shape();
     for row in 0..shape.rows {
@@ -276,7 +276,7 @@ fn copy_table<P: Placement, Q: Placement, E: Kind + Copy>(
     requires placement_in_bounds { (P.site placement.now).span ≤ length store.old }
     requires source_in_bounds { (Q.site source.now).span ≤ length entries.now }
     ensures answer { result ≡ (if copy_can transposed (P.site placement.now) (Q.site source.now) then Ok tt else Err Mismatch) }
-    ensures cells { store.new ≡ (if copy_can transposed (P.site placement.now) (Q.site source.now) then stored (P.site placement.now) (turned transposed (entry_of (Q.site source.now) nought entries.now)) store.old else store.old) }
+    ensures cells { store.new ≡ (if copy_can transposed (P.site placement.now) (Q.site source.now) then stored (P.site placement.now) (turned transposed (entry_of (Q.site source.now) E.nought entries.now)) store.old else store.old) }
 {
     let shape = placement.shape();
     if !are_fitting(shape, source.shape(), transposed) {

@@ -9,4 +9,4 @@ loop-line-init c =
 pub loop-line-preserved : goal.loop-line-preserved
 loop-line-preserved c =
     let s = c.in-Some.ensures.split in
-    line_more (string_bytes c.loop-line.out) (string_bytes c.push-answer.new.out) c.loop-line.rest.now c.in-Some.line.now c.in-Some.after.now _ s.whole c.in-ok-push-answer.ensures c.loop-line.invariant
+    line_more (string_bytes c.loop-line.out) (string_bytes c.push_answer.new.out) c.loop-line.rest.now c.in-Some.line.now c.in-Some.after.now _ s.whole c.in_ok-push_answer.ensures c.loop-line.invariant
