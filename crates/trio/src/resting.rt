@@ -17,7 +17,7 @@ use placement::{Placement, Shape};
 impl<L: Placement, R: Placement, S: Placement> Idle<L, R, S> {
     // An idle trio over three placements: left is r by q, right q by c and result r by c where a run is to begin.
     pub fn open(left: L, right: R, res: S) -> Idle<L, R, S>
-        ensures* { λ r. ⌜ r ≡ record { left = left; right = right; result = res } ⌝ }
+        ensures { result ≡ record { left = left; right = right; result = res } }
     {
         Idle {
             left,
@@ -256,7 +256,7 @@ fn are_fitting(shape: Shape, from: Shape, transposed: bool) -> bool
 
 // The row and the column, changed about where a copy is transposed.
 fn turn(row: u32, column: u32, transposed: bool) -> (u32, u32)
-    ensures { result ≡ (if transposed then column, row else row, column) }
+    ensures { result ≡ (if transposed then (column, row) else (row, column)) }
 {
     if transposed {
         (column, row)
@@ -273,8 +273,8 @@ fn copy_table<P: Placement, Q: Placement, E: Kind + Copy>(
     entries: &[E],
     transposed: bool,
 ) -> Result<(), Refusal>
-    requires placement_in_bounds { (P.site placement.now).span ≤ length store.old }
-    requires source_in_bounds { (Q.site source.now).span ≤ length entries.now }
+    requires long { (P.site placement.now).span ≤ length store.old }
+    requires entries_long { (Q.site source.now).span ≤ length entries.now }
     ensures answer { result ≡ (if copy_can transposed (P.site placement.now) (Q.site source.now) then Ok tt else Err Mismatch) }
     ensures cells { store.new ≡ (if copy_can transposed (P.site placement.now) (Q.site source.now) then stored (P.site placement.now) (turned transposed (entry_of (Q.site source.now) E.nought entries.now)) store.old else store.old) }
 {

@@ -6,37 +6,37 @@ use Rattle.calls.proofs.Outcomes.{clear_unnamed, clear_short, clear_made}
 use Rattle.trio.specs.Trios.{idle_trio}
 use Rattle.trio.proofs.Idle.clear.Goals as goal
 
-pub returns-in-err-named : goal.returns-in-err-named
-returns-in-err-named g c =
-    let p = err_from_is_err_and c.from-residual.result c.from-residual.ensures.1 in
+pub returns-in_err-named : goal.returns-in_err-named
+returns-in_err-named g c =
+    let p = err_from_is_err_and c.from_residual.result c.from_residual.ensures.1 in
     rw (p.1, p.2) (clear_unnamed g.E.Kind (idle_trio g.L.Placement g.R.Placement g.S.Placement c.args.self.now) c.args.lefts.now c.args.rights.now c.args.results.now
-    c.args.table c.in-err-named.field-0.0 (sym c.numbered.ensures ∙ c.in-err-named.was))
+    c.args.table c.in_err-named.field-0.0 (sym c.numbered.ensures ∙ c.in_err-named.was))
 
-pub returns-then-not-are-long : goal.returns-then-not-are-long
-returns-then-not-are-long g c =
+pub returns-then-not-are_long : goal.returns-then-not-are_long
+returns-then-not-are_long g c =
     clear_short g.E.Kind (idle_trio g.L.Placement g.R.Placement g.S.Placement c.args.self.now) c.args.lefts.now c.args.rights.now c.args.results.now
-    c.args.table c.in-ok-named.named (sym c.numbered.ensures ∙ c.in-ok-named.was) (sym c.are-long.ensures ∙ c.if-not-are-long.true)
+    c.args.table c.in_ok-named.named (sym c.numbered.ensures ∙ c.in_ok-named.was) (sym c.are_long.ensures ∙ c.if-not-are_long.true)
 
 pub returns-in-Left : goal.returns-in-Left
 returns-in-Left g c =
     clear_made g.E.Kind (idle_trio g.L.Placement g.R.Placement g.S.Placement c.args.self.now) c.args.lefts.now c.args.rights.now c.args.results.now
     c.args.table
     (record { left = g.met.L.Placement.lawful c.args.self.now.left; right = g.met.R.Placement.lawful c.args.self.now.right; result = g.met.S.Placement.lawful c.args.self.now.result })
-    Left (sym c.numbered.ensures ∙ c.in-ok-named.was ∙ ap (λ (x : Table). Ok x) c.in-Left.is) (sym c.are-long.ensures ∙ c.if-not-are-long.false)
-    c.clear-table.new.store c.clear-table.ensures
+    Left (sym c.numbered.ensures ∙ c.in_ok-named.was ∙ ap (λ (x : Table). Ok x) c.in-Left.is) (sym c.are_long.ensures ∙ c.if-not-are_long.false)
+    c.clear_table.new.store c.clear_table.ensures
 
 pub returns-in-Right : goal.returns-in-Right
 returns-in-Right g c =
     clear_made g.E.Kind (idle_trio g.L.Placement g.R.Placement g.S.Placement c.args.self.now) c.args.lefts.now c.args.rights.now c.args.results.now
     c.args.table
     (record { left = g.met.L.Placement.lawful c.args.self.now.left; right = g.met.R.Placement.lawful c.args.self.now.right; result = g.met.S.Placement.lawful c.args.self.now.result })
-    Right (sym c.numbered.ensures ∙ c.in-ok-named.was ∙ ap (λ (x : Table). Ok x) c.in-Right.is) (sym c.are-long.ensures ∙ c.if-not-are-long.false)
-    c.clear-table-in-Right.new.store c.clear-table-in-Right.ensures
+    Right (sym c.numbered.ensures ∙ c.in_ok-named.was ∙ ap (λ (x : Table). Ok x) c.in-Right.is) (sym c.are_long.ensures ∙ c.if-not-are_long.false)
+    c.clear_table-in-Right.new.store c.clear_table-in-Right.ensures
 
 pub returns-in-Result : goal.returns-in-Result
 returns-in-Result g c =
     clear_made g.E.Kind (idle_trio g.L.Placement g.R.Placement g.S.Placement c.args.self.now) c.args.lefts.now c.args.rights.now c.args.results.now
     c.args.table
     (record { left = g.met.L.Placement.lawful c.args.self.now.left; right = g.met.R.Placement.lawful c.args.self.now.right; result = g.met.S.Placement.lawful c.args.self.now.result })
-    Product (sym c.numbered.ensures ∙ c.in-ok-named.was ∙ ap (λ (x : Table). Ok x) c.in-Result.is) (sym c.are-long.ensures ∙ c.if-not-are-long.false)
-    c.clear-table-in-Result.new.store c.clear-table-in-Result.ensures
+    Product (sym c.numbered.ensures ∙ c.in_ok-named.was ∙ ap (λ (x : Table). Ok x) c.in-Result.is) (sym c.are_long.ensures ∙ c.if-not-are_long.false)
+    c.clear_table-in-Result.new.store c.clear_table-in-Result.ensures

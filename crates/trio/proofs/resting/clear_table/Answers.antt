@@ -13,8 +13,8 @@ loop-column-preserved g c =
     let p = g.P.Placement.site c.args.placement.now in
     let row : c.loop-row.row < p.rows = omega (arith, c.loop-row-test.true, c.shape-shape.ensures.rows) in
     let column : c.loop-column.column < p.columns = omega (arith, c.loop-column-test.true, c.shape-shape.ensures.columns) in
-    column_next p (λ _ _. g.E.Kind.nought) c.loop-row.store c.loop-column.store c.put-entry.new.store c.loop-row.row c.loop-column.column c.zero.result
-    (row, column) c.loop-column.invariant c.put-entry.ensures.cells c.zero.ensures
+    column_next p (λ _ _. g.E.Kind.nought) c.loop-row.store c.loop-column.store c.put_entry.new.store c.loop-row.row c.loop-column.column c.zero.result
+    (row, column) c.loop-column.invariant c.put_entry.ensures.cells c.zero.ensures
 
 pub loop-row-preserved : goal.loop-row-preserved
 loop-row-preserved g c =

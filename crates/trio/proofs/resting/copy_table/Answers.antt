@@ -20,11 +20,11 @@ loop-column-preserved g c =
     let q = g.Q.Placement.site c.args.source.now in
     let row : c.loop-row.row < p.rows = omega (arith, c.loop-row-test.true, c.shape-shape.ensures.rows) in
     let column : c.loop-column.column < p.columns = omega (arith, c.loop-column-test.true, c.shape-shape.ensures.columns) in
-    let can : copy_can c.args.transposed p q ≡ true = can_copy c.args.transposed p q c.shape-shape.result.rows c.shape-shape.result.columns c.shape.result.rows c.shape.result.columns c.shape-shape.ensures.rows c.shape-shape.ensures.columns c.shape.ensures.rows c.shape.ensures.columns c.are-fitting.result c.are-fitting.ensures ∙ c.if-not-are-fitting.false in
+    let can : copy_can c.args.transposed p q ≡ true = can_copy c.args.transposed p q c.shape-shape.result.rows c.shape-shape.result.columns c.shape.result.rows c.shape.result.columns c.shape-shape.ensures.rows c.shape-shape.ensures.columns c.shape.ensures.rows c.shape.ensures.columns c.are_fitting.result c.are_fitting.ensures ∙ c.if-not-are_fitting.false in
     let inside = turned_inside c.args.transposed p q c.loop-row.row c.loop-column.column can (row, column) c.turn-i.result c.turn-i.ensures in
-    column_next p (turned c.args.transposed (entry_of (g.Q.Placement.site c.args.source.now) g.E.Kind.nought c.args.entries.now)) c.loop-row.store c.loop-column.store c.put-entry.new.store c.loop-row.row c.loop-column.column c.unwrap-value.result
-    (row, column) c.loop-column.invariant c.put-entry.ensures.cells
-    (turned_value c.args.transposed q g.E.Kind.nought c.args.entries.now c.loop-row.row c.loop-column.column c.turn-i.result c.get-entry.result c.unwrap-value.result c.turn-i.ensures inside c.get-entry.ensures c.unwrap-value.ensures)
+    column_next p (turned c.args.transposed (entry_of (g.Q.Placement.site c.args.source.now) g.E.Kind.nought c.args.entries.now)) c.loop-row.store c.loop-column.store c.put_entry.new.store c.loop-row.row c.loop-column.column c.unwrap-value.result
+    (row, column) c.loop-column.invariant c.put_entry.ensures.cells
+    (turned_value c.args.transposed q g.E.Kind.nought c.args.entries.now c.loop-row.row c.loop-column.column c.turn-i.result c.get_entry.result c.unwrap-value.result c.turn-i.ensures inside c.get_entry.ensures c.unwrap-value.ensures)
 
 pub loop-row-preserved : goal.loop-row-preserved
 loop-row-preserved g c =
@@ -37,7 +37,7 @@ returns g c =
     let p = g.P.Placement.site c.args.placement.now in
     let q = g.Q.Placement.site c.args.source.now in
     let f = (turned c.args.transposed (entry_of (g.Q.Placement.site c.args.source.now) g.E.Kind.nought c.args.entries.now)) in
-    let can : copy_can c.args.transposed p q ≡ true = can_copy c.args.transposed p q c.shape-shape.result.rows c.shape-shape.result.columns c.shape.result.rows c.shape.result.columns c.shape-shape.ensures.rows c.shape-shape.ensures.columns c.shape.ensures.rows c.shape.ensures.columns c.are-fitting.result c.are-fitting.ensures ∙ c.if-not-are-fitting.false in
+    let can : copy_can c.args.transposed p q ≡ true = can_copy c.args.transposed p q c.shape-shape.result.rows c.shape-shape.result.columns c.shape.result.rows c.shape.result.columns c.shape-shape.ensures.rows c.shape-shape.ensures.columns c.shape.ensures.rows c.shape.ensures.columns c.are_fitting.result c.are_fitting.ensures ∙ c.if-not-are_fitting.false in
     let over : c.loop-row.row ≡ p.rows = omega (arith, c.loop-row-test.false, c.loop-row.auto.row-end, c.shape-shape.ensures.rows) in
     record {
       answer = sym (cond-true (copy_can c.args.transposed p q) (Ok tt) (Err Mismatch) can);
