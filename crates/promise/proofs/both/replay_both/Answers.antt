@@ -7,9 +7,9 @@ use Rattle.promise.specs.Replays.{state_mode}
 use Rattle.promise.proofs.Whole.{whole, agreed}
 use Rattle.promise.proofs.both.replay_both.Goals as goal
 
-pub returns-in-err-room : goal.returns-in-err-room
-returns-in-err-room g c =
-    let p = err_from_is_err_and c.from-residual.result c.from-residual.ensures.1 in
+pub returns-in_err-room : goal.returns-in_err-room
+returns-in_err-room g c =
+    let p = err_from_is_err_and c.from_residual.result c.from_residual.ensures.1 in
     let w = whole g.E.Kind (idle_trio g.L.Placement g.R.Placement g.S.Placement c.args.first) (idle_trio g.M.Placement g.N.Placement g.O.Placement c.args.second) (record { associative = g.met.E.Kind.associative; commutative = g.met.E.Kind.commutative; neutral = g.met.E.Kind.neutral }) (record { left = g.met.L.Placement.lawful c.args.first.left; right = g.met.R.Placement.lawful c.args.first.right; result = g.met.S.Placement.lawful c.args.first.result }) (record { left = g.met.M.Placement.lawful c.args.second.left; right = g.met.N.Placement.lawful c.args.second.right; result = g.met.O.Placement.lawful c.args.second.result }) in
     rw p.1 (record {
       first = refl;
@@ -22,12 +22,12 @@ returns-in-err-room g c =
       idle_cells = (w.first.idle_cells, w.second.idle_cells);
       shown = (w.first.shown, w.second.shown);
       alike = w.alike;
-      one-descriptor = one_form;
+      one_descriptor = one_form;
     })
 
-pub returns-in-err-other-room : goal.returns-in-err-other-room
-returns-in-err-other-room g c =
-    let p = err_from_is_err_and c.from-residual-in-err-other-room.result c.from-residual-in-err-other-room.ensures.1 in
+pub returns-in_err-other_room : goal.returns-in_err-other_room
+returns-in_err-other_room g c =
+    let p = err_from_is_err_and c.from_residual-in_err-other_room.result c.from_residual-in_err-other_room.ensures.1 in
     let w = whole g.E.Kind (idle_trio g.L.Placement g.R.Placement g.S.Placement c.args.first) (idle_trio g.M.Placement g.N.Placement g.O.Placement c.args.second) (record { associative = g.met.E.Kind.associative; commutative = g.met.E.Kind.commutative; neutral = g.met.E.Kind.neutral }) (record { left = g.met.L.Placement.lawful c.args.first.left; right = g.met.R.Placement.lawful c.args.first.right; result = g.met.S.Placement.lawful c.args.first.result }) (record { left = g.met.M.Placement.lawful c.args.second.left; right = g.met.N.Placement.lawful c.args.second.right; result = g.met.O.Placement.lawful c.args.second.result }) in
     rw p.1 (record {
       first = refl;
@@ -40,7 +40,7 @@ returns-in-err-other-room g c =
       idle_cells = (w.first.idle_cells, w.second.idle_cells);
       shown = (w.first.shown, w.second.shown);
       alike = w.alike;
-      one-descriptor = one_form;
+      one_descriptor = one_form;
     })
 
 pub returns : goal.returns
@@ -58,5 +58,5 @@ returns g c =
       idle_cells = (w.first.idle_cells, w.second.idle_cells);
       shown = (w.first.shown, w.second.shown);
       alike = w.alike;
-      one-descriptor = one_form;
+      one_descriptor = one_form;
     }
