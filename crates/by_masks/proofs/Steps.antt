@@ -1,8 +1,7 @@
 -- A step along a row or a column, by the sum under the mask.
-use Rattle.std.proofs.Common.{◌≡◌, ℕ, ◌+◌, ◌-◌, ◌%◌, ◌^◌, ◌<◌, ◌≤◌, true, is_ok, Ok, Err, Result, sym, refl, ap, ◌∙◌, mod-eq_of_lt, arith}
+use Rattle.std.proofs.Common.{◌≡◌, ℕ, ◌+◌, ◌-◌, ◌%◌, ◌^◌, ◌<◌, true, is_ok, Ok, Result, sym, ap, ◌∙◌, mod-eq_of_lt, arith}
 use lib.Bits.{bit_and}
 use lib.Count.{ones}
-use Rattle.fields.specs.Arithmetic.{spread_mod}
 use Rattle.fields.specs.Fields.{spread}
 use Rattle.masked.specs.Arithmetic.{sum_answer}
 use Rattle.masked.specs.declared.refusal.Refusal.{Refusal}

@@ -1,7 +1,7 @@
 -- What a run that finishes has made.
 use Rattle.std.proofs.Common.{◌≡◌, ℕ, ◌+◌, ◌-◌, ◌*◌, ◌^◌, ◌<◌, ◌≤◌, min, Bool, true, false, cond, eqb, leb, List, [], ◌∷◌, ◌++◌, length, take, Ok, count_by, Result, sym, refl, ap, ◌∙◌, append_assoc, arith}
 use mathlib.Core.Path.{fun_ext}
-use Rattle.std.specs.List.{AllByRecursion as All}
+use Rattle.std.specs.List.{AllByRecursion}
 use Rattle.std.proofs.lemmas.List.{take_all}
 use Rattle.std.proofs.lemmas.List.Sums.{count_by-le-length}
 use Rattle.std.proofs.lemmas.Bool.{and_parts, eqb-true, eq-eqb, leb-true, le-leb, lt-ltb}
@@ -150,7 +150,7 @@ module _ {E : Type 0} (kind : Kinds E) (t : Trio) (law : Placed t) (m : Moment E
     asked_told during =
         ap (asked during) (all_told kind t law (began kind t m before order) during ∙ ap (λ (v : View E). replies kind v during) began_view)
 
-    pub during_view : (during : List (Call E)) → All (λ c. is_end c ≡ false) during
+    pub during_view : (during : List (Call E)) → AllByRecursion (λ c. is_end c ≡ false) during
         → view_of kind t (all_done kind t m (before ++ Begin order ∷ during)) ≡ going kind (view_of kind t (all_done kind t m before)) order (asked_since kind t m before order during)
     unfolding all_next
     during_view during unended =

@@ -1,7 +1,7 @@
 -- How a run goes on: after every call it has made the first of the walk's tile products, as many as were asked for.
 use Rattle.std.proofs.Common.{◌≡◌, ℕ, ◌+◌, ◌-◌, min, Bool, true, false, cond, List, [], ◌∷◌, ◌++◌, length, take, drop, Ok, Err, Result, sym, refl, ap, ◌∙◌, arith, take-add}
 use mathlib.Core.Path.{fun_ext}
-use Rattle.std.specs.List.{AllByRecursion as All}
+use Rattle.std.specs.List.{AllByRecursion}
 use Rattle.std.proofs.iter.runs.Lists.{fold-append}
 use Rattle.std.proofs.lemmas.Bool.{cond-true}
 use Rattle.masked.specs.declared.refusal.Refusal.{Refusal}
@@ -109,7 +109,7 @@ module _ {E : Type 0} (kind : Kinds E) (v : View E) (order : ℕ) where
   call_goes a Remaining h = going_none a false
   call_goes a End h = let z : true ≡ false = h in cc
 
-  pub all_go : (a : ℕ) (cs : List (Call E)) → All (λ c. is_end c ≡ false) cs → all_next kind (going a) cs ≡ going (a + asked cs (replies kind (going a) cs))
+  pub all_go : (a : ℕ) (cs : List (Call E)) → AllByRecursion (λ c. is_end c ≡ false) cs → all_next kind (going a) cs ≡ going (a + asked cs (replies kind (going a) cs))
   unfolding all_next replies
   all_go a [] h = let e : a ≡ a + 0 = omega arith in ap going e
   all_go a (c ∷ cs) h =

@@ -1,6 +1,6 @@
 -- What is promised of every list of calls on a trio, whatever the placements, the stores and the order of the tiles.
 use Rattle.std.specs.Prelude.{◌≡◌, ℕ, ◌+◌, ◌-◌, ◌<◌, ◌≤◌, Bool, true, false, cond, List, [], ◌∷◌, ◌++◌, length, take, ◌≢◌, slice_index_or}
-use Rattle.std.specs.List.{AllByRecursion as All}
+use Rattle.std.specs.List.{AllByRecursion}
 use Rattle.kinds.specs.declared.kind.Kind.{Ghosts as Kinds}
 use Rattle.placement.specs.Sites.{Inside}
 use Rattle.walk.specs.declared.sizes.Triple.{Triple}
@@ -60,7 +60,7 @@ product_walk t order = walk_of (sizes_of t.left.rows t.right.columns t.left.colu
 -- after some calls a run was begun: begin was accepted, and the calls since have not ended it
 pub record Runs {E : Type 0} (kind : Kinds E) (t : Trio) (m : Moment E) (before : List (Call E)) (order : ℕ) (during : List (Call E)) : Type 0 where
   pub begun : answer_to kind (view_of kind t (all_done kind t m before)) (Begin order) ≡ Done
-  pub unended : All (λ c. is_end c ≡ false) during
+  pub unended : AllByRecursion (λ c. is_end c ≡ false) during
 
 -- the stores when the run began
 abbrev pub began : {E : Type 0} → Kinds E → Trio → Moment E → List (Call E) → ℕ → Moment E

@@ -1,5 +1,5 @@
 -- A number of 16 bits spread at the even positions, a byte at a time.
-use Rattle.std.proofs.Common.{◌≡◌, ℕ, ◌+◌, ◌*◌, ◌/◌, ◌%◌, ◌^◌, ◌≤◌, refl, arith}
+use Rattle.std.proofs.Common.{◌≡◌, ℕ, ◌+◌, ◌*◌, ◌/◌, ◌%◌, ◌^◌, refl, arith}
 use lib.Count.{ones, ones_in}
 use Rattle.fields.specs.Fields.{spread, spread_over}
 use Rattle.fields.proofs.Spreads.{spread_le}

@@ -1,9 +1,8 @@
 -- Spread and gather at the 32 positions of a mask: what the crates above rest on.
-use Rattle.std.proofs.Common.{◌≡◌, ℕ, suc, ◌+◌, ◌-◌, ◌*◌, ◌/◌, ◌%◌, ◌^◌, ◌<◌, ◌≤◌, sym, refl, ap, ◌∙◌, ⊎_elim, arith}
+use Rattle.std.proofs.Common.{◌≡◌, ℕ, ◌+◌, ◌-◌, ◌*◌, ◌/◌, ◌%◌, ◌^◌, ◌<◌, ◌≤◌, sym, ap, ◌∙◌, arith}
 use lib.Bits.{bit_and}
 use lib.Count.{ones}
-use Rattle.std.proofs.lemmas.Bool.{cases_order}
-use Rattle.fields.specs.Fields.{spread, gather, spread_over, gather_over, Spread, Undone}
+use Rattle.fields.specs.Fields.{spread, gather, Spread, Undone}
 use Rattle.fields.proofs.Spreads as over
 
 pub spread_of_zero : (m : ℕ) → spread 0 m ≡ 0

@@ -1,5 +1,5 @@
 -- Spread and gather, over any number of positions.
-use Rattle.std.proofs.Common.{◌≡◌, ℕ, zero, suc, ◌+◌, ◌-◌, ◌*◌, ◌/◌, ◌%◌, ◌^◌, ◌<◌, ◌≤◌, min, ◌⊎◌, sym, refl, ap, ◌∙◌, subst, inl, inr, ⊎_elim, pow-suc, div-one, arith, pow_pos, shr-shr}
+use Rattle.std.proofs.Common.{◌≡◌, ℕ, zero, suc, ◌+◌, ◌-◌, ◌*◌, ◌/◌, ◌%◌, ◌^◌, ◌<◌, ◌≤◌, min, sym, refl, ◌∙◌, ⊎_elim, pow-suc, div-one, arith, pow_pos, shr-shr}
 use lib.Bits.{bit_and, and_step, and_self, and_comm, and_le_l}
 use lib.Count.{ones, ones_step, ones-le}
 use lib.Pow.{mod-mod-pow, field}

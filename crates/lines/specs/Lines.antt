@@ -1,6 +1,6 @@
 -- The lines of an input of bytes. Byte 10 ends a line, and so does the end of the input.
 use Rattle.std.specs.Prelude.{◌≡◌, ℕ, ◌+◌, ◌<◌, Bool, cond, not, List, [], ◌∷◌, ◌++◌, length, take, drop, ◌==◌, ◌≢◌}
-use Rattle.std.specs.List.{prefix_len, AllByRecursion as All}
+use Rattle.std.specs.List.{prefix_len, AllByRecursion}
 
 -- A byte goes to the front of the first line.
 abbrev pub front : ℕ → List (List ℕ) → List (List ℕ)
@@ -14,7 +14,7 @@ lines (b ∷ bs) = cond (b == 10) ([] ∷ lines bs) (front b (lines bs))
 
 -- No byte of l ends a line.
 abbrev pub Unbroken : List ℕ → Type 0
-Unbroken l = All (λ b. b ≢ 10) l
+Unbroken l = AllByRecursion (λ b. b ≢ 10) l
 
 -- What `lines` means. Its three parts fix the lines of every input.
 pub record LinesLaw : Type 0 where

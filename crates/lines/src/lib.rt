@@ -44,8 +44,8 @@ mod tests {
     #[test]
     fn splits_lines(rt: HostRuntime) -> Result<(), Fail> {
         let (line, rest) = split_line(b"a\nb").ok_or("no line")?;
-        assert!(rt; line == b"a");
-        assert!(rt; rest == b"b");
+        assert!(rt; line == b"a".as_slice());
+        assert!(rt; rest == b"b".as_slice());
         let (line, rest) = split_line(b"\n").ok_or("no line")?;
         assert!(rt; line.is_empty());
         assert!(rt; rest.is_empty());

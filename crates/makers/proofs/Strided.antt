@@ -1,5 +1,5 @@
 -- A stride that masks can say: the masks are legal, and every entry lies where the stride puts it.
-use Rattle.std.proofs.Common.{◌≡◌, ℕ, ◌+◌, ◌-◌, ◌*◌, ◌^◌, ◌<◌, ◌≤◌, true, false, eqb, ◌⊎◌, Ok, sym, refl, ap, ◌∙◌, ⊎_elim, mul_comm, zero-mul, arith, pow_mono}
+use Rattle.std.proofs.Common.{◌≡◌, ℕ, ◌+◌, ◌-◌, ◌*◌, ◌^◌, ◌<◌, ◌≤◌, true, false, eqb, ◌⊎◌, Ok, ap, ◌∙◌, ⊎_elim, mul_comm, zero-mul, arith, pow_mono}
 use lib.Bits.{bit_and, and_comm}
 use lib.Count.{ones}
 use Rattle.std.proofs.lemmas.Nat.{mul-le}

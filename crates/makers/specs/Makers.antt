@@ -1,5 +1,5 @@
 -- What the makers answer: a layout's plan, or the first refusal that applies.
-use Rattle.std.specs.Prelude.{◌≡◌, ℕ, ◌+◌, ◌-◌, ◌*◌, ◌^◌, ◌<◌, Bool, cond, ◌&&◌, ◌||◌, Ok, Err, Result, ◌==◌, bit_and, count_ones, nat_le, nat_lt}
+use Rattle.std.specs.Prelude.{◌≡◌, ℕ, ◌-◌, ◌*◌, ◌^◌, ◌<◌, Bool, cond, ◌&&◌, ◌||◌, Ok, Err, Result, ◌==◌, bit_and, count_ones, nat_le, nat_lt}
 use Rattle.fields.specs.Fields.{spread, width}
 use Rattle.masked.specs.declared.refusal.Refusal.{Refusal}
 use Rattle.masked.specs.declared.refusal.Refusal.TheVariants.{Shape, MaskBits, MaskPosition, MaskOverlap, Stride}

@@ -1,13 +1,13 @@
 // Width, spread and gather.
 ghost use Rattle.std.specs.Prelude.{◌≡◌, ℕ, ◌<◌, ◌≤◌, IfOk};
-ghost use Rattle.fields.specs.Fields.{width as width_of_lem, Wide, Spread, Undone};
+ghost use Rattle.fields.specs.Fields.{width as width_of, Wide, Spread, Undone};
 ghost use Rattle.masked.specs.Fields.{spread_answer, gather_answer};
 
 use crate::refusal::Refusal;
 
 // How many binary digits n has; 0 has none.
 pub fn width(n: u32) -> u32
-    ensures value { result ≡ width_of_lem n }
+    ensures value { result ≡ width_of n }
     ensures law { Wide n result }
 {
     32 - n.leading_zeros()

@@ -1,5 +1,5 @@
 -- The masks that a program makes by shifts, at each p up to 12.
-use Rattle.std.proofs.Common.{◌≡◌, ℕ, zero, suc, ◌+◌, ◌-◌, ◌*◌, ◌/◌, ◌^◌, ◌<◌, ◌≤◌, Bool, true, ◌&&◌, eqb, ltb, leb, refl, arith}
+use Rattle.std.proofs.Common.{◌≡◌, ℕ, zero, suc, ◌-◌, ◌/◌, ◌^◌, ◌<◌, ◌≤◌, Bool, true, ◌&&◌, eqb, ltb, leb, refl, arith}
 use lib.Bits.{bit_and}
 use lib.Count.{ones, ones_in, ones_step, ones-le}
 use Rattle.std.proofs.lemmas.Bool.{ltb-true, leb-true, eqb-true}

@@ -1,6 +1,6 @@
 -- The cells that no entry has are the span less the entries: each cell is counted by the entries that have it, of which there is at most one,
 -- and the two sums are taken in the other order, where each entry counts once.
-use Rattle.std.proofs.Common.{◌≡◌, ℕ, zero, suc, ◌+◌, ◌*◌, ◌<◌, ◌≤◌, Bool, true, false, cond, ◌||◌, eqb, ◌⊎◌, sym, refl, ap, ◌∙◌, subst, inl, inr, suc-mul, zero-mul, mul-one, arith}
+use Rattle.std.proofs.Common.{◌≡◌, ℕ, zero, suc, ◌+◌, ◌*◌, ◌<◌, ◌≤◌, Bool, true, false, cond, eqb, sym, refl, ap, ◌∙◌, inl, inr, suc-mul, zero-mul, mul-one, arith}
 use Rattle.std.proofs.lemmas.Bool.{cases_eq, cases_Bool, or_cases, or_left, or_right, eqb-true, eq-eqb, ne_eqb, cond-true, cond-false, both_ways}
 use Rattle.placement.specs.Cells.{sum_below, any_below, owned, idle_cells, idle_of}
 use Rattle.placement.specs.Sites.{Site, Lawful}

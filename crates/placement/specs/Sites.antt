@@ -1,5 +1,5 @@
 -- A placement: a shape, a span, and which cell holds an entry. And what the questions on one answer.
-use Rattle.std.specs.Prelude.{◌≡◌, ℕ, ◌+◌, ◌<◌, ◌≤◌, cond, Some, None, Ok, Err, Option, Result, nat_lt}
+use Rattle.std.specs.Prelude.{◌≡◌, ℕ, ◌+◌, ◌<◌, ◌≤◌, cond, Some, Ok, Err, Option, Result, nat_lt}
 use Rattle.masked.specs.declared.refusal.Refusal.{Refusal}
 use Rattle.masked.specs.declared.refusal.Refusal.TheVariants.{Outside}
 

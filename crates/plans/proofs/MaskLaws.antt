@@ -1,10 +1,10 @@
 -- Legal masks make a placement, and how the owner of a cell is found.
 use Rattle.std.proofs.Common.{◌≡◌, ℕ, ◌+◌, ◌-◌, ◌^◌, ◌<◌, ◌≤◌, Some, None, sym, refl, ap, ◌∙◌, ⊎_elim, add_comm, arith}
-use lib.Bits.{bit_and, bit_or, and_comm, and_le_r, or_disjoint, or_lt}
+use lib.Bits.{bit_and, and_comm, or_disjoint, or_lt}
 use lib.Count.{ones}
 use Rattle.std.proofs.lemmas.Bool.{cases_lt}
 use Rattle.fields.specs.Fields.{spread, gather, width}
-use Rattle.fields.proofs.Fields.{spread_le, spread_mono, spread_same, spread_part, spread_gather, spread_inside, gather_below}
+use Rattle.fields.proofs.Fields.{spread_le, spread_mono, spread_same, spread_part, spread_gather, spread_inside}
 use Rattle.fields.proofs.Widths.{wide_width}
 use Rattle.placement.specs.Sites.{Lawful, Owner}
 use Rattle.placement.proofs.Owners.{owner_some, owner_none}

@@ -1,8 +1,8 @@
 -- The two indices: their laws, what a call answers, and what comes back.
-use Rattle.std.proofs.Common.{◌≡◌, ℕ, ◌+◌, ◌*◌, ◌^◌, ◌<◌, ◌≤◌, true, false, ltb, leb, Ok, Err, Result, sym, refl, ap, ◌∙◌, ⊎_elim, arith}
+use Rattle.std.proofs.Common.{◌≡◌, ℕ, ◌+◌, ◌*◌, ◌^◌, ◌<◌, ◌≤◌, true, false, ltb, leb, Ok, Err, sym, refl, ap, ◌∙◌, ⊎_elim, arith}
 use Rattle.std.proofs.lemmas.Bool.{cases_order, cases_Bool, and_from, and_right, and_parts, le-leb, lt-ltb, le-ltb, leb-true, ltb-true}
 use Rattle.masked.specs.declared.refusal.Refusal.{Refusal}
-use Rattle.masked.specs.declared.refusal.Refusal.TheVariants.{Block as No-block}
+use Rattle.masked.specs.declared.refusal.Refusal.TheVariants.{Block as NoBlock}
 use Rattle.quadtree.specs.declared.block.Block.{Block}
 use Rattle.quadtree.specs.Blocks.{IsBlock, is_block, ahnentafel_of, level_order_of, index_answer, start_answer, HasIndex, BlockAt}
 use Rattle.quadtree.specs.Laws.{Tree, Ahnentafel, LevelOrder, ThereAndBack}
@@ -44,14 +44,14 @@ pub started : (l m s : ℕ) → Ok s ≡ start_answer l m → IsBlock l m × (s 
 started l m s e =
     ⊎_elim
     (λ t. let w : Ok s ≡ Ok (3 * 4 ^ l) = rw t at e in let same : s ≡ 3 * 4 ^ l = cc in (true_block l m t, same))
-    (λ f. let w : Ok s ≡ Err No-block = rw f at e in let z : ◌≡◌ {A = ℕ} 0 1 = cc in absurd (omega arith))
+    (λ f. let w : Ok s ≡ Err NoBlock = rw f at e in let z : ◌≡◌ {A = ℕ} 0 1 = cc in absurd (omega arith))
     (cases_Bool (is_block l m))
 
 pub refused : (index_of : ℕ → ℕ → ℕ) (l m : ℕ) (r : Refusal) → Err r ≡ start_answer l m → Err r ≡ index_answer index_of l m
 refused index_of l m r e =
     ⊎_elim
     (λ t. let w : Err r ≡ Ok (3 * 4 ^ l) = rw t at e in let z : ◌≡◌ {A = ℕ} 0 1 = cc in absurd (omega arith))
-    (λ f. let w : Err r ≡ Err No-block = rw f at e in rw f w)
+    (λ f. let w : Err r ≡ Err NoBlock = rw f at e in rw f w)
     (cases_Bool (is_block l m))
 
 -- the index from the level start, and that it fits
@@ -66,7 +66,7 @@ answered : (index_of : ℕ → ℕ → ℕ) (l m i : ℕ) → index_answer index
 answered index_of l m i e =
     ⊎_elim
     (λ t. let w : Ok (index_of l m) ≡ Ok i = rw t at e in let same : index_of l m ≡ i = cc in (true_block l m t, same))
-    (λ f. let w : Err No-block ≡ Ok i = rw f at e in let z : ◌≡◌ {A = ℕ} 0 1 = cc in absurd (omega arith))
+    (λ f. let w : Err NoBlock ≡ Ok i = rw f at e in let z : ◌≡◌ {A = ℕ} 0 1 = cc in absurd (omega arith))
     (cases_Bool (is_block l m))
 
 -- the indices of a level lie below those of the next, and those of one level apart
@@ -123,9 +123,9 @@ module _ (index_of : ℕ → ℕ → ℕ) (ordered : Ordered index_of) (apart : 
     same = λ b i answer e at. at.there b (answered index_of b.level b.morton i e);
   }
 
-pub missing : (index_of : ℕ → ℕ → ℕ) (i : ℕ) → ((b : Block) → HasIndex index_of b i → ⊥) → BlockAt index_of i (Err No-block)
+pub missing : (index_of : ℕ → ℕ → ℕ) (i : ℕ) → ((b : Block) → HasIndex index_of b i → ⊥) → BlockAt index_of i (Err NoBlock)
 missing index_of i no_one = record {
   there = λ b h. absurd (no_one b h);
   back = λ b e. (let z : ◌≡◌ {A = ℕ} 0 1 = cc in absurd (omega arith));
-  none = λ e k. (let same : e ≡ No-block = cc in (same, no_one));
+  none = λ e k. (let same : e ≡ NoBlock = cc in (same, no_one));
 }

@@ -1,14 +1,14 @@
 -- The row and the column of a Morton index: the laws of the children, and what the calls of gather answer.
-use Rattle.std.proofs.Common.{◌≡◌, ℕ, zero, suc, ◌+◌, ◌-◌, ◌*◌, ◌/◌, ◌%◌, ◌^◌, ◌<◌, ◌≤◌, true, is_ok, Ok, Result, sym, refl, ap, ◌∙◌, arith}
+use Rattle.std.proofs.Common.{◌≡◌, ℕ, zero, suc, ◌+◌, ◌*◌, ◌/◌, ◌%◌, ◌^◌, ◌<◌, true, is_ok, Ok, Result, sym, refl, ap, ◌∙◌, arith}
 use lib.Bits.{bit_and}
 use lib.Pow.{mod-mod-pow, field}
 use Rattle.std.proofs.lemmas.Bool.{eq-eqb}
-use Rattle.fields.specs.Fields.{spread, gather, gather_over}
+use Rattle.fields.specs.Fields.{gather, gather_over}
 use Rattle.fields.proofs.Fields.{spread_gather, spread_inside, gather_spread, gather_below, gather_even, gather_odd}
 use Rattle.fields.proofs.Spreads as over
 use Rattle.masked.specs.Fields.{gather_answer}
 use Rattle.masked.specs.declared.refusal.Refusal.{Refusal}
-use Rattle.quadtree.specs.Places.{row_of, column_of, ChildRows, ChildColumns}
+use Rattle.quadtree.specs.Places.{ChildRows, ChildColumns}
 
 -- gather asks nothing of the bits outside the mask
 inside : (v m : ℕ) → m < 2 ^ 32 → bit_and (bit_and v m) m ≡ bit_and v m

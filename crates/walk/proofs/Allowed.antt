@@ -3,7 +3,7 @@ use Rattle.std.proofs.Common.{◌≡◌, ℕ, zero, suc, ◌*◌, ◌^◌, ◌<�
 use Rattle.std.proofs.lemmas.Nat.{pow_pos, mul-le}
 use Rattle.std.proofs.lemmas.Bool.{and_parts, leb-true, cond-true, cond-false}
 use Rattle.std.proofs.ByRecursion.{kept_by_passes}
-use Rattle.std.specs.List.{AllByRecursion as All, slice_get}
+use Rattle.std.specs.List.{AllByRecursion, slice_get}
 use Rattle.walk.specs.declared.sizes.Triple.{Triple}
 use Rattle.walk.specs.declared.sizes.Sizes.{Sizes}
 use Rattle.walk.specs.Walks.{walk, inside, allowed, side, walk_of, reflected, height_of, tiles_of, all_tiles, triple, Walks}
@@ -72,7 +72,7 @@ pub whole_walk : (s : Sizes) (a b c h : ℕ) → allowed s ≡ true → a ≡ ti
 whole_walk s a b c h ok x y z e = rw (x, y, z, e) (sym (walk_of_allowed s ok ∙ reflected_walked s))
 
 -- the triple at a place of a list has what each triple of the list has
-pub at_place : (P : Triple → Type 0) (ts : List Triple) (n : ℕ) → All P ts → MatchOption (slice_get ts n) (length ts ≤ n) P
+pub at_place : (P : Triple → Type 0) (ts : List Triple) (n : ℕ) → AllByRecursion P ts → MatchOption (slice_get ts n) (length ts ≤ n) P
 at_place P [] n all = omega arith
 at_place P (t ∷ ts) zero (p, all) = p
 at_place P (t ∷ ts) (suc n) (p, all) = later (slice_get ts n) (at_place P ts n all)
@@ -81,11 +81,11 @@ at_place P (t ∷ ts) (suc n) (p, all) = later (slice_get ts n) (at_place P ts n
     later (Some u) q = q
     later None q = omega arith
 
-pub all_inside : (s : Sizes) → All (λ t. inside s t ≡ true) (walk_of s)
+pub all_inside : (s : Sizes) → AllByRecursion (λ t. inside s t ≡ true) (walk_of s)
 unfolding walk_of reflected
 all_inside s = by (allowed s)
   where
-    by : (b : Bool) → All (λ t. inside s t ≡ true) (cond b (reflected s) [])
+    by : (b : Bool) → AllByRecursion (λ t. inside s t ≡ true) (cond b (reflected s) [])
     by true = kept_by_passes (inside s) (walk (height_of s) (triple 0 0 0))
     by false = tt
 

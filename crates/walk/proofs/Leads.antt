@@ -1,6 +1,6 @@
 -- Forward and backward at a height above 0: the turn that they take leads to their triple.
 use Rattle.std.proofs.Common.{◌≡◌, ℕ, suc, true, List, reverse, Option, sym, ◌∙◌}
-use Rattle.std.specs.List.{AllByRecursion as All, slice_get}
+use Rattle.std.specs.List.{AllByRecursion, slice_get}
 use Rattle.walk.specs.declared.sizes.Triple.{Triple}
 use Rattle.walk.specs.declared.place.Grid.{Grid}
 use Rattle.walk.specs.declared.place.Turn.{Turn}
@@ -11,7 +11,7 @@ use Rattle.walk.proofs.Rooms.{rooms, rooms_back, turn_to}
 
 module _ (g : Grid) (h k : ℕ) (up : h ≡ suc k) (t : Triple) (n : ℕ) (cs : List Triple) where
   module _ (are : cs ≡ children_of t) where
-    pub forward_rooms : Room h t → All (Room k) cs
+    pub forward_rooms : Room h t → AllByRecursion (Room k) cs
     forward_rooms room = rw are (rooms h k up t room)
 
     module _ (turn : Turn) (is : turn ≡ turn_of (size_of g k) true cs n) where
@@ -22,7 +22,7 @@ module _ (g : Grid) (h k : ℕ) (up : h ≡ suc k) (t : Triple) (n : ℕ) (cs : 
       forward_leads r e = e ∙ rw (is, are) (sym (forward_turn g h k up t n))
 
   module _ (are : cs ≡ reverse (children_of t)) where
-    pub backward_rooms : Room h t → All (Room k) cs
+    pub backward_rooms : Room h t → AllByRecursion (Room k) cs
     backward_rooms room = rw are (rooms_back h k up t room)
 
     module _ (turn : Turn) (is : turn ≡ turn_of (size_of g k) true cs n) where

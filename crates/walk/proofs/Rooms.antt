@@ -1,6 +1,6 @@
 -- Cubes among the first 4,096 tiles of each side: their children are there too, and a turn leads to one of them.
 use Rattle.std.proofs.Common.{◌≡◌, ℕ, suc, ◌+◌, ◌-◌, ◌*◌, ◌^◌, ◌≤◌, Bool, true, false, cond, not, ltb, List, [], ◌∷◌, reverse, subst, pow-suc, arith}
-use Rattle.std.specs.List.{AllByRecursion as All}
+use Rattle.std.specs.List.{AllByRecursion}
 use Rattle.std.proofs.lemmas.Nat.{pow_pos, mul-le}
 use Rattle.walk.specs.declared.sizes.Triple.{Triple}
 use Rattle.walk.specs.declared.place.Turn.{Turn}
@@ -40,10 +40,10 @@ module _ (h k : ℕ) (up : h ≡ suc k) (t : Triple) (room : Room h t) where
   l : 1 ≤ 1
   l = omega arith
 
-  pub rooms : All (Room k) (children_of t)
+  pub rooms : AllByRecursion (Room k) (children_of t)
   rooms = (child_room o o o, (child_room o o l, (child_room o l l, (child_room o l o, (child_room l l o, (child_room l l l, (child_room l o l, (child_room l o o, tt))))))))
 
-  pub rooms_back : All (Room k) (reverse (children_of t))
+  pub rooms_back : AllByRecursion (Room k) (reverse (children_of t))
   rooms_back = (child_room l o o, (child_room l o l, (child_room l l l, (child_room l l o, (child_room o l o, (child_room o l l, (child_room o o l, (child_room o o o, tt))))))))
 
 module _ (P : Triple → Type 0) (size : Triple → ℕ) where
@@ -53,6 +53,6 @@ module _ (P : Triple → Type 0) (size : Triple → ℕ) where
   to_one false ahead t n there p q = q
 
   -- a turn leads to one of the cubes
-  pub turn_to : (ahead : Bool) (ts : List Triple) (n : ℕ) → All P ts → To P (turn_of size ahead ts n)
+  pub turn_to : (ahead : Bool) (ts : List Triple) (n : ℕ) → AllByRecursion P ts → To P (turn_of size ahead ts n)
   turn_to ahead [] n all = tt
   turn_to ahead (t ∷ ts) n (p, all) = to_one (ltb n (size t)) ahead t n (turn_of size (not ahead) ts (n - size t)) p (turn_to (not ahead) ts (n - size t) all)

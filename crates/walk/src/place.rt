@@ -1,6 +1,6 @@
 // The triple at a place of the walk.
 ghost use Rattle.std.specs.Prelude.{◌≡◌, ◌≤◌, true, reverse, length, if◌then◌else◌, Some, None, MatchOption, nat_lt};
-ghost use Rattle.std.specs.List.{AllByRecursion as All, slice_get};
+ghost use Rattle.std.specs.List.{AllByRecursion, slice_get};
 ghost use Rattle.walk.specs.Walks.{walk_of, allowed, inside, Walks, child_of, children_of};
 ghost use Rattle.walk.specs.Steps.{walked, extent_of, size_of, turn_of, Room};
 
@@ -75,7 +75,7 @@ fn children(cube: Triple) -> [Triple; 8]
 
 // Goes along the cubes, which are walked forward and backward by turns, to the one that has the triple at n.
 fn next_turn(grid: Grid, height: u32, cubes: &[Triple], n: u64) -> Turn
-    requires { All (Room height) cubes.now }
+    requires { AllByRecursion (Room height) cubes.now }
     ensures { result ≡ turn_of (size_of grid height) true cubes.now n }
 {
     let mut left = n;

@@ -1,4 +1,4 @@
-use Rattle.std.proofs.Common.{◌≡◌, ◌+◌, ◌*◌, ◌^◌, ◌<◌, ◌≤◌}
+use Rattle.std.proofs.Common.{◌≡◌, ◌+◌, ◌*◌, ◌^◌, ◌≤◌}
 use lib.Count.{ones}
 use Rattle.fields.specs.Fields.{gather}
 use Rattle.masked.proofs.field.gather.Given as goal

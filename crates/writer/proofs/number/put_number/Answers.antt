@@ -1,4 +1,4 @@
-use Rattle.std.proofs.Common.{◌≡◌, ◌<◌, ◌≤◌, length, ◌∙◌, arith}
+use Rattle.std.proofs.Common.{◌∙◌, arith}
 use Rattle.writer.proofs.Numbers.{length_small, length_large, length_pos}
 use Rattle.writer.proofs.Writes.{written_more, written_last}
 use Rattle.writer.proofs.number.put_number.Goals as goal

@@ -1,4 +1,4 @@
-use Rattle.std.proofs.Common.{◌≡◌, ◌+◌, ◌≤◌, length, get_or, take, ap, ◌∙◌, arith, length-append, take_all}
+use Rattle.std.proofs.Common.{◌≤◌, length, get_or, take, ap, ◌∙◌, arith, length-append, take_all}
 use Rattle.writer.specs.Descriptors.{in_form}
 use Rattle.writer.specs.Numbers.{groups}
 use Rattle.writer.proofs.Forms.{form_more}

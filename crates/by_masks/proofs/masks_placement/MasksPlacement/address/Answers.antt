@@ -1,4 +1,4 @@
-use Rattle.std.proofs.Common.{◌≡◌, ap, arith}
+use Rattle.std.proofs.Common.{arith}
 use Rattle.by_masks.proofs.Calls.{row_accepted, row_told, column_accepted, column_told, parts_small}
 use Rattle.by_masks.proofs.masks_placement.MasksPlacement.address.Goals as goal
 
