@@ -1,10 +1,9 @@
 -- Elements of one value are equal, and the laws of the three kinds.
-use Rattle.std.specs.Prelude.{◌≡◌, ℕ, ◌+◌, ◌*◌, ◌%◌, ◌^◌, ◌<◌, min, Bool, true, false, ◌||◌, refl}
-use Rattle.std.proofs.Common.{sym, ap, ◌∙◌, mod-eq_of_lt, add_assoc, add_comm, zero-add, arith}
+use Rattle.std.specs.Prelude.{◌≡◌, ◌^◌, ◌<◌, Bool, true, false, ◌||◌, refl}
+use Rattle.std.proofs.Common.{ap, arith}
 use mathlib.Core.HLevel.{is_prop→PathP}
 use Rattle.std.proofs.Math.Bridge.{le_prop}
-use Rattle.std.proofs.Math.Nat.{add-mod, mod-mod}
-use Rattle.kinds.specs.Meanings.{count_of, no_count, count_plus, time_of, no_path, time_plus, connection_of, no_connection, connection_plus}
+use Rattle.kinds.specs.Meanings.{no_count, count_plus, no_path, time_plus, connection_of, no_connection, connection_plus}
 use Rattle.kinds.specs.declared.connection.Connection.{Connection}
 use Rattle.kinds.specs.declared.count.Count.{Count}
 use Rattle.kinds.specs.declared.travel_time.TravelTime.{TravelTime}

@@ -1,5 +1,5 @@
 -- What zero, plus and times mean for each kind.
-use Rattle.std.specs.Prelude.{ℕ, ◌+◌, ◌*◌, ◌%◌, ◌^◌, ◌<◌, min, Bool, false, ◌&&◌, ◌||◌}
+use Rattle.std.specs.Prelude.{ℕ, ◌+◌, ◌*◌, ◌%◌, ◌^◌, min, Bool, false, ◌&&◌, ◌||◌}
 use Rattle.std.proofs.Common.{mod-lt, arith, pow_pos}
 use Rattle.kinds.specs.declared.connection.Connection.{Connection}
 use Rattle.kinds.specs.declared.count.Count.{Count}
