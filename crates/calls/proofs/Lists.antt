@@ -1,5 +1,5 @@
 -- Lists of calls, by what is seen of them.
-use Rattle.std.proofs.Common.{◌≡◌, ℕ, ◌+◌, true, false, List, [], ◌∷◌, ◌++◌, get_or, Ok, Err, Result, sym, refl, ap, ◌∙◌}
+use Rattle.std.proofs.Common.{◌≡◌, ℕ, true, false, List, [], ◌∷◌, ◌++◌, get_or, Ok, Err, Result, sym, refl, ap, ◌∙◌}
 use Rattle.kinds.specs.declared.kind.Kind.{Ghosts as Kinds}
 use Rattle.placement.specs.Sites.{Inside}
 use Rattle.laws.specs.Stores.{stored}
