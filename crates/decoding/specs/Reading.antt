@@ -59,9 +59,9 @@ mask_at input at entries =
 
 -- the column mask, which comes after the row mask
 abbrev pub column_mask_at : List ℕ → ℕ → ℕ → ℕ → Result Number Fault
-column_mask_at input at columns row-mask =
+column_mask_at input at columns row_mask =
     and_then (mask_at input at columns) (λ mask.
-    unless (bit_and row-mask mask.value == 0) MaskOverlap at (Ok mask))
+    unless (bit_and row_mask mask.value == 0) MaskOverlap at (Ok mask))
 
 -- the stride: not below the near side, nor above 4,095, and none that masks say
 abbrev pub stride_at : List ℕ → ℕ → ℕ → ℕ → Result Number Fault

@@ -1,5 +1,5 @@
 // One number of a descriptor, as it is read.
-ghost use Rattle.std.specs.Prelude.{◌≡◌, ℕ};
+ghost use Rattle.std.specs.Prelude.{◌≡◌};
 ghost use Rattle.decoding.specs.Reading.{number_at};
 
 use crate::fault::Fault;

@@ -1,5 +1,5 @@
 // What two sites settle before they exchange a block.
-ghost use Rattle.std.specs.Prelude.{ℕ};
+
 ghost use Rattle.descriptor.specs.Comparing.{Compared};
 ghost use Rattle.decoding.specs.Laws.{OneForm};
 

@@ -1,7 +1,7 @@
 // The known figures in one list.
 #![tactic(auto)]
 
-ghost use Rattle.std.specs.Prelude.{◌≡◌, ℕ};
+ghost use Rattle.std.specs.Prelude.{◌≡◌};
 ghost use Rattle.figures.specs.Figures.{Figures};
 
 // How many figures the list has. That the definitions give them is the contract.

@@ -1,5 +1,4 @@
 // The three kinds.
-ghost use Rattle.std.specs.Prelude.{◌≡◌};
 ghost use Rattle.kinds.specs.Meanings.{no_count, count_plus, count_times, no_path, time_plus, time_times, no_connection, connection_plus, connection_times};
 ghost use Rattle.kinds.specs.Elements.{count_associative, count_commutative, count_neutral, time_associative, time_commutative, time_neutral, connection_associative, connection_commutative, connection_neutral};
 

@@ -1,5 +1,5 @@
 // From masks.
-ghost use Rattle.std.specs.Prelude.{◌≡◌, ℕ, ◌+◌, ◌^◌, ◌≤◌, count_ones};
+ghost use Rattle.std.specs.Prelude.{◌≡◌, ◌+◌, ◌≤◌, count_ones};
 ghost use Rattle.fields.specs.Fields.{spread as spread_of};
 ghost use Rattle.by_masks.specs.Layouts.{masks_plan};
 ghost use Rattle.plans.specs.Plans.{site_of};

@@ -1,5 +1,5 @@
 // From a stride.
-ghost use Rattle.std.specs.Prelude.{◌≡◌, ℕ, ◌+◌, ◌*◌, ◌≤◌};
+ghost use Rattle.std.specs.Prelude.{◌≡◌, ◌+◌, ◌*◌, ◌≤◌};
 ghost use Rattle.layouts.specs.Layouts.{layout_plan};
 ghost use Rattle.plans.specs.Plans.{site_of};
 ghost use Rattle.makers.specs.Makers.{planned, Places, side_bits as bits_of, from_row_stride, from_column_stride};

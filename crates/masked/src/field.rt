@@ -1,5 +1,5 @@
 // Width, spread and gather.
-ghost use Rattle.std.specs.Prelude.{◌≡◌, ℕ, ◌<◌, ◌≤◌, IfOk};
+ghost use Rattle.std.specs.Prelude.{◌≡◌, ◌<◌, IfOk};
 ghost use Rattle.fields.specs.Fields.{width as width_of, Wide, Spread, Undone};
 ghost use Rattle.masked.specs.Fields.{spread_answer, gather_answer};
 

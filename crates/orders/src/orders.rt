@@ -1,5 +1,5 @@
 // Named orders.
-ghost use Rattle.std.specs.Prelude.{◌≡◌, ℕ, ◌≤◌};
+ghost use Rattle.std.specs.Prelude.{◌≡◌, ◌≤◌};
 ghost use Rattle.layouts.specs.Layouts.{layout_plan};
 ghost use Rattle.makers.specs.Makers.{planned, from_masks};
 ghost use Rattle.orders.specs.Orders.{named_order};

@@ -1,7 +1,7 @@
 // What every placement answers, and what may be relied on.
 #![tactic(auto)]
 
-ghost use Rattle.std.specs.Prelude.{◌≡◌, ℕ, ◌+◌, ◌*◌};
+ghost use Rattle.std.specs.Prelude.{◌≡◌, ◌+◌, ◌*◌};
 ghost use Rattle.placement.specs.Cells.{idle_of};
 ghost use Rattle.placement.specs.Sites.{Site, Lawful, Owner, address_answer};
 

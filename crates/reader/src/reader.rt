@@ -1,5 +1,5 @@
 // The reader.
-ghost use Rattle.std.specs.Prelude.{◌≡◌, ℕ, ◌≤◌};
+ghost use Rattle.std.specs.Prelude.{◌≡◌, ◌≤◌};
 ghost use Rattle.plans.specs.Conditions.{Side};
 ghost use Rattle.layouts.specs.Layouts.{layout_plan};
 ghost use Rattle.decoding.specs.Laws.{Bounded, ExchangeLaw};

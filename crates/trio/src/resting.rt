@@ -1,5 +1,5 @@
 // The calls of an idle trio.
-ghost use Rattle.std.specs.Prelude.{◌≡◌, ◌≤◌, length, set, if◌then◌else◌, Ok, Err, slice_set};
+ghost use Rattle.std.specs.Prelude.{◌≡◌, ◌≤◌, length, if◌then◌else◌, Ok, Err, slice_set};
 ghost use Rattle.masked.specs.declared.refusal.Refusal.TheVariants.{Outside, Mismatch};
 ghost use Rattle.laws.specs.Stores.{entry_of, stored};
 ghost use Rattle.calls.specs.declared.call.Call.TheVariants.{Put, Get, Clear, Copy};

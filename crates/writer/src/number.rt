@@ -1,6 +1,6 @@
 // Numbers as bytes: seven bits to a byte, the lowest first, with 128 added to every byte but the last.
 
-ghost use Rattle.std.specs.Prelude.{◌≡◌, ℕ, ◌+◌, ◌≤◌, ◌++◌, length, take, drop};
+ghost use Rattle.std.specs.Prelude.{◌≡◌, ◌+◌, ◌≤◌, ◌++◌, length, take, drop};
 ghost use Rattle.writer.specs.Numbers.{groups};
 
 // How many bytes `n` takes.

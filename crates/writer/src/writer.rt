@@ -1,5 +1,5 @@
 // The writer.
-ghost use Rattle.std.specs.Prelude.{◌≡◌, ℕ, ◌+◌, ◌≤◌, ◌++◌, length, drop};
+ghost use Rattle.std.specs.Prelude.{◌≡◌, ◌+◌, ◌≤◌, ◌++◌, length, drop};
 ghost use Rattle.layouts.specs.Layouts.{layout_plan};
 ghost use Rattle.writer.specs.Descriptors.{in_form, bytes_of, write_answer, write_bytes};
 ghost use Rattle.writer.specs.Numbers.{NumberLaw};
