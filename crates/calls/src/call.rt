@@ -2,7 +2,7 @@
 use masked::Refusal;
 
 // A call of a trio. Tables go by number: 0 left, 1 right, 2 result.
-#[derive(Clone, Copy)]
+#[derive(Clone, Copy, PartialEq, Eq, Debug)]
 pub enum Call<E> {
     // Writes one entry.
     Put {
@@ -42,7 +42,7 @@ pub enum Call<E> {
 }
 
 // What a call was told.
-#[derive(Clone, Copy)]
+#[derive(Clone, Copy, PartialEq, Eq, Debug)]
 pub enum Answer<E> {
     // The call was made, and there is nothing to tell.
     Done,

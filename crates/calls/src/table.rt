@@ -12,11 +12,13 @@ pub enum Table {
     Result,
 }
 
-impl Table {
-    // The table of a number: 0 is the left, 1 the right and 2 the result; there is no other.
-    pub fn numbered(number: u32) -> Result<Table, Refusal>
-        ensures { result ≡ table_numbered number }
-    {
+// The table of a number: 0 is the left, 1 the right and 2 the result; there is no other.
+impl TryFrom<u32> for Table {
+    type Error = Refusal;
+
+    ghost try_from_gives = { λ number answer. answer ≡ table_numbered number };
+
+    fn try_from(number: u32) -> Result<Table, Refusal> {
         match number {
             0 => Ok(Table::Left),
             1 => Ok(Table::Right),

@@ -1,7 +1,7 @@
 // Whether there is a connection.
 ghost use Rattle.std.specs.Prelude.{◌≡◌};
 
-#[derive(Clone, Copy)]
+#[derive(Clone, Copy, PartialEq, Eq, Debug)]
 pub struct Connection {
     pub linked: bool,
 }

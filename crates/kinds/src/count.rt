@@ -1,7 +1,7 @@
 // How many: sums and products are taken modulo 2^32.
 ghost use Rattle.std.specs.Prelude.{◌≡◌, ◌^◌, ◌<◌};
 
-#[derive(Clone, Copy)]
+#[derive(Clone, Copy, PartialEq, Eq, Debug)]
 pub struct Count {
     pub value: u32,
     ghost fits: { value < 2 ^ 32 },

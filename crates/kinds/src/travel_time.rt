@@ -1,7 +1,7 @@
 // How long a journey takes. 4,294,967,295 means that there is no path.
 ghost use Rattle.std.specs.Prelude.{◌≡◌, ◌^◌, ◌<◌};
 
-#[derive(Clone, Copy)]
+#[derive(Clone, Copy, PartialEq, Eq, Debug)]
 pub struct TravelTime {
     pub value: u32,
     ghost fits: { value < 2 ^ 32 },

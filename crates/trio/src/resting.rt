@@ -39,7 +39,7 @@ impl<L: Placement, R: Placement, S: Placement> Idle<L, R, S> {
     ) -> Result<(), Refusal>
         ensures { Called E.Kind (idle_trio L.Placement R.Placement S.Placement self.now) (opened lefts.old rights.old results.old) (Put table row column value) (told result) (opened lefts.new rights.new results.new) }
     {
-        let named = Table::numbered(table)?;
+        let named = Table::try_from(table)?;
         if !are_long(
             &self.left,
             &self.right,
@@ -69,7 +69,7 @@ impl<L: Placement, R: Placement, S: Placement> Idle<L, R, S> {
     ) -> Result<E, Refusal>
         ensures { Called E.Kind (idle_trio L.Placement R.Placement S.Placement self.now) (opened lefts.now rights.now results.now) (Get table row column) (get_answer result) (opened lefts.now rights.now results.now) }
     {
-        let named = Table::numbered(table)?;
+        let named = Table::try_from(table)?;
         if !are_long(
             &self.left,
             &self.right,
@@ -97,7 +97,7 @@ impl<L: Placement, R: Placement, S: Placement> Idle<L, R, S> {
     ) -> Result<(), Refusal>
         ensures { Called E.Kind (idle_trio L.Placement R.Placement S.Placement self.now) (opened lefts.old rights.old results.old) (Clear table) (told result) (opened lefts.new rights.new results.new) }
     {
-        let named = Table::numbered(table)?;
+        let named = Table::try_from(table)?;
         if !are_long(
             &self.left,
             &self.right,
@@ -128,8 +128,8 @@ impl<L: Placement, R: Placement, S: Placement> Idle<L, R, S> {
     ) -> Result<(), Refusal>
         ensures { Called E.Kind (idle_trio L.Placement R.Placement S.Placement self.now) (opened lefts.old rights.old results.old) (Copy to from transposed) (told result) (opened lefts.new rights.new results.new) }
     {
-        let target = Table::numbered(to)?;
-        let source = Table::numbered(from)?;
+        let target = Table::try_from(to)?;
+        let source = Table::try_from(from)?;
         if to == from {
             return Err(Refusal::Table);
         }
