@@ -1,8 +1,8 @@
 -- What the register operations give under a mask, at 32 positions: the ordinary arithmetic of the gathered numbers.
-use Rattle.std.proofs.Common.{◌≡◌, ℕ, ◌+◌, ◌-◌, ◌%◌, ◌^◌, ◌<◌, ◌≤◌, true, false, ◌&&◌, eqb, ltb, sym, refl, ap, ◌∙◌, ⊎_elim, mod-eq_of_lt, arith}
+use Rattle.std.proofs.Common.{◌≡◌, ℕ, ◌+◌, ◌-◌, ◌%◌, ◌^◌, ◌<◌, ◌≤◌, true, ◌&&◌, eqb, ltb, sym, refl, ap, ◌∙◌, ⊎_elim, mod-eq_of_lt, arith}
 use lib.Bits.{bit_and, bit_or, and_mod, and_le_r, and_self}
 use lib.Count.{ones}
-use Rattle.std.proofs.lemmas.Bool.{cases_order, cases_eq, lt-ltb, le-ltb, eq-eqb, ne_eqb, and_from, and_left, and_right}
+use Rattle.std.proofs.lemmas.Bool.{cases_order, cases_eq, lt-ltb, le-ltb, eq-eqb, ne_eqb, and_from}
 use Rattle.fields.specs.Fields.{spread, gather}
 use Rattle.fields.specs.Arithmetic.{inside, spread_mod}
 use Rattle.fields.proofs.Fields.{spread_of_zero, spread_mono, gather_spread, spread_gather, gather_below}
@@ -92,9 +92,3 @@ equal_is a b m h i j = ⊎_elim (λ e. rw (eq-eqb a b e, eq-eqb (gather a m) (ga
 -- the test of two operands
 pub both_inside : (a b m : ℕ) → bit_and a m ≡ a → bit_and b m ≡ b → (inside a m && inside b m) ≡ true
 both_inside a b m i j = and_from (inside a m) (inside b m) (eq-eqb (bit_and a m) a i) (eq-eqb (bit_and b m) b j)
-
-pub first_outside : (a b m : ℕ) → (bit_and a m ≡ a → ⊥) → (inside a m && inside b m) ≡ false
-first_outside a b m n = and_left (inside a m) (inside b m) (ne_eqb (bit_and a m) a n)
-
-pub second_outside : (a b m : ℕ) → (bit_and b m ≡ b → ⊥) → (inside a m && inside b m) ≡ false
-second_outside a b m n = and_right (inside a m) (inside b m) (ne_eqb (bit_and b m) b n)

@@ -1,10 +1,10 @@
 -- What one turn of the loops of spread and of gather keeps.
-use Rattle.std.proofs.Common.{◌≡◌, ℕ, suc, ◌+◌, ◌-◌, ◌*◌, ◌/◌, ◌%◌, ◌^◌, ◌<◌, ◌≤◌, ◌∙◌, ⊎_elim, one-mul, pow-suc, zero-mul, arith, pow_mono}
+use Rattle.std.proofs.Common.{◌≡◌, ℕ, suc, ◌+◌, ◌-◌, ◌*◌, ◌/◌, ◌%◌, ◌^◌, ◌<◌, ◌≤◌, ◌∙◌, sym, ap, ⊎_elim, one-mul, pow-suc, zero-mul, arith, pow_mono}
 use lib.Count.{ones, ones-le}
-use Rattle.std.proofs.lemmas.Nat.{one_shl}
 use Rattle.std.proofs.lemmas.Bool.{cases_lt}
+use Rattle.std.proofs.Math.Nat.{div-div-eq-div-mul, div-le_self}
 use Rattle.fields.specs.Fields.{spread, gather}
-use Rattle.fields.proofs.Spreads.{cleared, cleared_le, ones_cleared, ones_even, ones_odd, below_none}
+use Rattle.fields.proofs.Spreads.{cleared, cleared_le, ones_cleared, below_none}
 use Rattle.fields.proofs.Fields.{spread_lowest, spread_le, spread_of_zero, gather_even, gather_odd, gather_below}
 
 -- out is spread already, and bits is left to spread under left
@@ -46,51 +46,40 @@ spread_done n mask out bits left z (sum, _, _) =
     let none : spread bits left ≡ 0 = rw z (spread_of_zero left) in
     omega arith
 
--- out is gathered already, place bits of it, and bits is left to gather under left
-abbrev pub Gathering : ℕ → ℕ → ℕ → ℕ → ℕ → ℕ → Type 0
-Gathering v mask out place bits left = (out + 2 ^ place * gather bits left ≡ gather v mask) × (place + ones left ≡ ones mask) × (left ≤ mask)
+-- n from position p on is half of what it is from the position below
+halved : (n p : ℕ) → 0 < p → n / 2 ^ p ≡ n / 2 ^ (p - 1) / 2
+halved n p some =
+    let e : p ≡ suc (p - 1) = omega arith in
+    let f : 2 ^ p ≡ 2 ^ (p - 1) * 2 = ap (λ k. 2 ^ k) e ∙ pow-suc 2 (p - 1) in
+    rw (f, div-div-eq-div-mul n (2 ^ (p - 1)) 2)
 
-pub gather_turn_even : (v mask out place bits left : ℕ) → mask < 2 ^ 32 → left % 2 ≡ 0 → Gathering v mask out place bits left → Gathering v mask out place (bits / 2) (left / 2)
-gather_turn_even v mask out place bits left small p (sum, count, le) =
-    let g = gather_even bits left (omega arith) p in
-    let o = ones_even left p in
-    (rw g at sum, omega arith, omega arith)
+-- nothing is gathered past the last position
+pub gather_begin : (v mask : ℕ) → v < 2 ^ 32 → mask < 2 ^ 32 → 0 ≡ gather (v / 2 ^ 32) (mask / 2 ^ 32)
+gather_begin v mask small le =
+    let none : v / 2 ^ 32 ≡ 0 = omega arith in
+    let all : mask / 2 ^ 32 ≡ 0 = omega arith in
+    let z = below_none (gather 0 0) 0 (omega arith) (gather_below 0 0 (omega arith)) in
+    rw (none, all, z)
 
-pub gather_place : (v mask out place bits left : ℕ) → mask < 2 ^ 32 → left % 2 ≡ 1 → Gathering v mask out place bits left → place < 32
-gather_place v mask out place bits left small p (sum, count, le) =
-    let o = ones_odd left p in
-    let m = ones-le 32 mask small in
-    omega arith
+-- out is gathered from position p on: so it is one position further down, or it and the bit there are
+module _ (v mask out p : ℕ) (small : mask < 2 ^ 32) (some : 0 < p) (gathered : out ≡ gather (v / 2 ^ p) (mask / 2 ^ p)) where
+  below : mask / 2 ^ (p - 1) < 2 ^ 32
+  below = let le = div-le_self mask (2 ^ (p - 1)) in omega arith
 
--- the bit as the machine shifts it
-pub gather_bit : (place bits : ℕ) → place < 32 → (bits % 2 * 2 ^ place) % 2 ^ 32 ≡ (bits % 2) * 2 ^ place
-gather_bit place bits h =
-    ⊎_elim
-    (λ l. let less : bits % 2 < 1 = l in let z : bits % 2 ≡ 0 = omega arith in rw (z, zero-mul (2 ^ place)))
-    (λ l. let more : 1 ≤ bits % 2 = l in let z : bits % 2 ≡ 1 = omega arith in rw (z, one_shl place 32 h, one-mul (2 ^ place)))
-    (cases_lt (bits % 2) 1)
+  half : out ≡ gather (v / 2 ^ (p - 1) / 2) (mask / 2 ^ (p - 1) / 2)
+  half = rw (halved v p some, halved mask p some) at gathered
 
-pub gather_turn_odd : (v mask out place bits left : ℕ) → mask < 2 ^ 32 → left % 2 ≡ 1 → Gathering v mask out place bits left → Gathering v mask (out + (bits % 2 * 2 ^ place) % 2 ^ 32) (place + 1) (bits / 2) (left / 2)
-gather_turn_odd v mask out place bits left small p (sum, count, le) =
-    let g = gather_odd bits left (omega arith) p in
-    let o = ones_odd left p in
-    let h = gather_place v mask out place bits left small p (sum, count, le) in
-    let whole : out + 2 ^ place * (2 * gather (bits / 2) (left / 2) + bits % 2) ≡ gather v mask = rw g at sum in
-    let e : place + 1 ≡ suc place = omega arith in
-    let more : 2 ^ (place + 1) ≡ 2 ^ place * 2 = rw e (pow-suc 2 place) in
-    (rw (gather_bit place bits h, more) (omega arith), omega arith, omega arith)
+  pub gather_zero : (mask / 2 ^ (p - 1) % 2 ≡ 1 → ⊥) → out ≡ gather (v / 2 ^ (p - 1)) (mask / 2 ^ (p - 1))
+  gather_zero zero_bit = half ∙ sym (gather_even (v / 2 ^ (p - 1)) (mask / 2 ^ (p - 1)) below (omega (arith, zero_bit)))
 
--- what is out fits
-pub gather_fits : (v mask out place bits left : ℕ) → mask < 2 ^ 32 → Gathering v mask out place bits left → out < 2 ^ 32
-gather_fits v mask out place bits left small (sum, _, _) =
-    let b = gather_below v mask small in
-    let w = ones-le 32 mask small in
-    let p = pow_mono w in
-    omega arith
+  pub gather_one : mask / 2 ^ (p - 1) % 2 ≡ 1 → 2 * out + v / 2 ^ (p - 1) % 2 ≡ gather (v / 2 ^ (p - 1)) (mask / 2 ^ (p - 1))
+  gather_one one_bit = ap (λ g. 2 * g + v / 2 ^ (p - 1) % 2) half ∙ sym (gather_odd (v / 2 ^ (p - 1)) (mask / 2 ^ (p - 1)) below one_bit)
 
-pub gather_done : (v mask out place bits left : ℕ) → left ≡ 0 → Gathering v mask out place bits left → out ≡ gather v mask
-gather_done v mask out place bits left z (sum, _, _) =
-    let b : gather bits left < 2 ^ ones left = gather_below bits left (omega arith) in
-    let none = below_none (gather bits left) left (omega arith) b in
-    let whole : out + 2 ^ place * 0 ≡ gather v mask = rw none at sum in
-    omega arith
+  -- what is out then fits
+  pub gather_fits : mask / 2 ^ (p - 1) % 2 ≡ 1 → 2 * out + v / 2 ^ (p - 1) % 2 < 2 ^ 32
+  gather_fits one_bit =
+      let b = gather_below (v / 2 ^ (p - 1)) (mask / 2 ^ (p - 1)) below in
+      let w = ones-le 32 (mask / 2 ^ (p - 1)) below in
+      let m = pow_mono w in
+      let e = gather_one one_bit in
+      omega arith

@@ -2,6 +2,7 @@
 ghost use Rattle.std.specs.Prelude.{◌≡◌};
 ghost use Rattle.masked.specs.Arithmetic.{sum_answer, difference_answer, plus_one_answer, minus_one_answer, less_answer, equal_answer, Ordinary};
 
+use crate::field::check_inside;
 use crate::refusal::Refusal;
 
 // The bits outside the mask are filled with ones, so that a carry runs over them to the next one-bit of the mask.
@@ -9,9 +10,8 @@ pub fn sum(a: u32, b: u32, mask: u32) -> Result<u32, Refusal>
     ensures value { result ≡ sum_answer a b mask }
     ensures law { Ordinary mask }
 {
-    if a & mask != a || b & mask != b {
-        return Err(Refusal::Field);
-    }
+    check_inside(a, mask)?;
+    check_inside(b, mask)?;
     Ok((a | !mask).wrapping_add(b) & mask)
 }
 
@@ -20,9 +20,8 @@ pub fn difference(a: u32, b: u32, mask: u32) -> Result<u32, Refusal>
     ensures value { result ≡ difference_answer a b mask }
     ensures law { Ordinary mask }
 {
-    if a & mask != a || b & mask != b {
-        return Err(Refusal::Field);
-    }
+    check_inside(a, mask)?;
+    check_inside(b, mask)?;
     Ok(a.wrapping_sub(b) & mask)
 }
 
@@ -31,9 +30,7 @@ pub fn plus_one(a: u32, mask: u32) -> Result<u32, Refusal>
     ensures value { result ≡ plus_one_answer a mask }
     ensures law { Ordinary mask }
 {
-    if a & mask != a {
-        return Err(Refusal::Field);
-    }
+    check_inside(a, mask)?;
     Ok((a | !mask).wrapping_add(1) & mask)
 }
 
@@ -42,9 +39,7 @@ pub fn minus_one(a: u32, mask: u32) -> Result<u32, Refusal>
     ensures value { result ≡ minus_one_answer a mask }
     ensures law { Ordinary mask }
 {
-    if a & mask != a {
-        return Err(Refusal::Field);
-    }
+    check_inside(a, mask)?;
     Ok(a.wrapping_sub(1) & mask)
 }
 
@@ -53,9 +48,8 @@ pub fn less(a: u32, b: u32, mask: u32) -> Result<bool, Refusal>
     ensures value { result ≡ less_answer a b mask }
     ensures law { Ordinary mask }
 {
-    if a & mask != a || b & mask != b {
-        return Err(Refusal::Field);
-    }
+    check_inside(a, mask)?;
+    check_inside(b, mask)?;
     Ok(a < b)
 }
 
@@ -64,8 +58,7 @@ pub fn equal(a: u32, b: u32, mask: u32) -> Result<bool, Refusal>
     ensures value { result ≡ equal_answer a b mask }
     ensures law { Ordinary mask }
 {
-    if a & mask != a || b & mask != b {
-        return Err(Refusal::Field);
-    }
+    check_inside(a, mask)?;
+    check_inside(b, mask)?;
     Ok(a == b)
 }

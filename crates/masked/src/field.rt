@@ -1,7 +1,7 @@
 // Width, spread and gather.
-ghost use Rattle.std.specs.Prelude.{◌≡◌, ◌<◌, IfOk};
+ghost use Rattle.std.specs.Prelude.{◌≡◌, IfOk, bit_and};
 ghost use Rattle.fields.specs.Fields.{width as width_of, Wide, Spread, Undone};
-ghost use Rattle.masked.specs.Fields.{spread_answer, gather_answer};
+ghost use Rattle.masked.specs.Fields.{spread_answer, inside_answer, gather_answer};
 
 use crate::refusal::Refusal;
 
@@ -35,25 +35,29 @@ pub fn spread(n: u32, mask: u32) -> Result<u32, Refusal>
     Ok(out)
 }
 
-// The bits of v at the one-bits of the mask, lowest first: what spread put there.
-pub fn gather(v: u32, mask: u32) -> Result<u32, Refusal>
-    ensures value { result ≡ gather_answer v mask }
-    ensures law { Undone mask }
+// Refuses a number that has a bit outside the mask.
+pub(crate) fn check_inside(v: u32, mask: u32) -> Result<(), Refusal>
+    ensures value { result ≡ inside_answer v mask }
+    ensures inside { IfOk result (λ _. bit_and v mask ≡ v) }
 {
     if v & mask != v {
         return Err(Refusal::Field);
     }
+    Ok(())
+}
+
+// The bits of v at the one-bits of the mask, lowest first: what spread put there. They are taken from the highest down,
+// each behind those before it.
+pub fn gather(v: u32, mask: u32) -> Result<u32, Refusal>
+    ensures value { result ≡ gather_answer v mask }
+    ensures law { Undone mask }
+{
+    check_inside(v, mask)?;
     let mut out = 0u32;
-    let mut place = 0u32;
-    let mut bits = v;
-    let mut left = mask;
-    while left != 0 {
-        if left % 2 == 1 {
-            out += (bits % 2) << place;
-            place += 1;
+    for position in (0..32u32).rev() {
+        if (mask >> position) % 2 == 1 {
+            out = 2 * out + (v >> position) % 2;
         }
-        bits /= 2;
-        left /= 2;
     }
     Ok(out)
 }

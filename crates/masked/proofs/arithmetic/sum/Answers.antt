@@ -1,21 +1,19 @@
 use Rattle.std.proofs.Common.{Ok, ap, arith}
-use Rattle.fields.proofs.Registers.{sum_is, both_inside, first_outside, second_outside}
+use Rattle.fields.proofs.Registers.{sum_is, both_inside}
 use Rattle.masked.proofs.Ordinary.{ordinary}
 use Rattle.masked.proofs.arithmetic.sum.Goals as goal
-use Rattle.masked.proofs.arithmetic.sum.Goals.{then-a-mask-via-then-a-mask, then-a-mask-via-else-a-mask+then-b-mask}
 
-pub returns-then-a-mask : goal.returns-then-a-mask
-returns-then-a-mask c =
-    let all = ordinary c.args.mask (omega arith) in
-    elim c.then-a-mask.branch [
-      | then-a-mask-via-then-a-mask w ↦ record { value = rw (first_outside c.args.a c.args.b c.args.mask w.if-a-mask.true); law = all }
-      | then-a-mask-via-else-a-mask+then-b-mask w ↦ record { value = rw (second_outside c.args.a c.args.b c.args.mask w.if-b-mask.true); law = all }
-    ]
+pub returns-clause-value : goal.returns-clause-value
+returns-clause-value c =
+    let a = c.in_ok-check_inside.ensures.inside in
+    let b = c.in_ok-check_inside-2.ensures.inside in
+    rw (both_inside c.args.a c.args.b c.args.mask a b) (ap Ok (sum_is c.args.a c.args.b c.args.mask (omega arith) a b))
 
-pub returns : goal.returns
-returns c =
-    let is = sum_is c.args.a c.args.b c.args.mask (omega arith) c.if-a-mask.false c.if-b-mask.false in
-    record {
-      value = rw (both_inside c.args.a c.args.b c.args.mask c.if-a-mask.false c.if-b-mask.false) (ap Ok is);
-      law = ordinary c.args.mask (omega arith);
-    }
+pub returns-in_err-check_inside-clause-law : goal.returns-in_err-check_inside-clause-law
+returns-in_err-check_inside-clause-law c = ordinary c.args.mask (omega arith)
+
+pub returns-in_err-check_inside-2-clause-law : goal.returns-in_err-check_inside-2-clause-law
+returns-in_err-check_inside-2-clause-law c = ordinary c.args.mask (omega arith)
+
+pub returns-clause-law : goal.returns-clause-law
+returns-clause-law c = ordinary c.args.mask (omega arith)

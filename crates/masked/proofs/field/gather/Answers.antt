@@ -1,42 +1,29 @@
-use Rattle.std.proofs.Common.{Ok, ap, arith}
-use lib.Bits.{bit_and}
-use Rattle.std.proofs.lemmas.Bool.{eq-eqb, ne_eqb}
+use Rattle.std.proofs.Common.{arith}
 use Rattle.fields.proofs.Fields.{undone}
-use Rattle.fields.proofs.Turns.{gather_turn_even, gather_turn_odd, gather_place, gather_fits, gather_done}
+use Rattle.fields.proofs.Turns.{gather_begin, gather_one, gather_zero, gather_fits}
 use Rattle.masked.proofs.field.gather.Goals as goal
-use Rattle.masked.proofs.field.gather.Goals.{then-left-eq1, else-left-eq1}
 
-pub returns-then-v-mask : goal.returns-then-v-mask
-returns-then-v-mask c = record {
-  value = rw (ne_eqb (bit_and c.args.v c.args.mask) c.args.v c.if-v-mask.true);
-  law = undone c.args.mask (omega arith);
-}
+pub returns-in_err-check_inside-clause-law : goal.returns-in_err-check_inside-clause-law
+returns-in_err-check_inside-clause-law c = undone c.args.mask (omega arith)
 
-pub overflow_shl-out : goal.overflow_shl-out
-overflow_shl-out c = gather_place c.args.v c.args.mask _ _ _ _ (omega arith) c.if-left-eq1.true c.loop-left.invariant
+pub loop-position-init : goal.loop-position-init
+loop-position-init c = gather_begin c.args.v c.args.mask (omega arith) (omega arith)
+
+pub overflow_mul-out : goal.overflow_mul-out
+overflow_mul-out c =
+    let fits = gather_fits c.args.v c.args.mask _ _ (omega arith) c.loop-position-test.true c.loop-position.invariant c.if-mask-position-eq1.true in
+    omega arith
 
 pub overflow_add-out : goal.overflow_add-out
 overflow_add-out c =
-    let next = gather_turn_odd c.args.v c.args.mask _ _ _ _ (omega arith) c.if-left-eq1.true c.loop-left.invariant in
-    let fits = gather_fits c.args.v c.args.mask _ _ _ _ (omega arith) next in
+    let fits = gather_fits c.args.v c.args.mask _ _ (omega arith) c.loop-position-test.true c.loop-position.invariant c.if-mask-position-eq1.true in
     omega arith
 
-pub overflow_add-place : goal.overflow_add-place
-overflow_add-place c =
-    let place = gather_place c.args.v c.args.mask _ _ _ _ (omega arith) c.if-left-eq1.true c.loop-left.invariant in
-    omega arith
+pub loop-position-preserved-then-mask-position-eq1 : goal.loop-position-preserved-then-mask-position-eq1
+loop-position-preserved-then-mask-position-eq1 c = gather_one c.args.v c.args.mask _ _ (omega arith) c.loop-position-test.true c.loop-position.invariant c.if-mask-position-eq1.true
 
-pub loop-left-preserved : goal.loop-left-preserved
-loop-left-preserved c =
-    elim c.if-left-eq1.branch [
-      | then-left-eq1 w ↦ rw (w.out-is, w.place-is) (gather_turn_odd c.args.v c.args.mask _ _ _ _ (omega arith) w.if-left-eq1.true c.loop-left.invariant)
-      | else-left-eq1 w ↦ rw (w.out-is, w.place-is) (gather_turn_even c.args.v c.args.mask _ _ _ _ (omega arith) (omega (arith, w.if-left-eq1.false)) c.loop-left.invariant)
-    ]
+pub loop-position-preserved : goal.loop-position-preserved
+loop-position-preserved c = gather_zero c.args.v c.args.mask _ _ (omega arith) c.loop-position-test.true c.loop-position.invariant c.if-mask-position-eq1.false
 
-pub returns : goal.returns
-returns c =
-    let done = gather_done c.args.v c.args.mask c.loop-left.out c.loop-left.place c.loop-left.bits c.loop-left.left (omega arith) c.loop-left.invariant in
-    record {
-      value = rw (eq-eqb (bit_and c.args.v c.args.mask) c.args.v c.if-v-mask.false) (ap Ok done);
-      law = undone c.args.mask (omega arith);
-    }
+pub returns-clause-law : goal.returns-clause-law
+returns-clause-law c = undone c.args.mask (omega arith)
