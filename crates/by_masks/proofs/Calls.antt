@@ -1,9 +1,9 @@
 -- What spread and gather answer under the masks of a layout: they do not refuse there.
-use Rattle.std.proofs.Common.{◌≡◌, ℕ, ◌+◌, ◌^◌, ◌<◌, true, is_ok, Some, None, Ok, Result, ap, ◌∙◌, arith}
+use Rattle.std.proofs.Common.{◌≡◌, ℕ, ◌+◌, ◌-◌, ◌^◌, ◌<◌, ◌≤◌, true, is_ok, Some, None, Ok, Result, ap, ◌∙◌, arith}
 use lib.Bits.{bit_and}
 use lib.Count.{ones}
 use Rattle.std.proofs.lemmas.Bool.{lt-ltb, eq-eqb}
-use Rattle.fields.specs.Fields.{spread, gather}
+use Rattle.fields.specs.Fields.{width, spread, gather}
 use Rattle.fields.proofs.Fields.{spread_le, gather_below}
 use Rattle.masked.specs.Fields.{spread_answer, gather_answer}
 use Rattle.masked.specs.declared.refusal.Refusal.{Refusal}
@@ -23,26 +23,16 @@ spread_ok n m h = rw (lt-ltb n (2 ^ ones m) h)
 gather_ok : (at m : ℕ) → m < 2 ^ 32 → gather_answer (bit_and at m) m ≡ Ok (gather (bit_and at m) m)
 gather_ok at m h = rw (eq-eqb (bit_and (bit_and at m) m) (bit_and at m) (part_inside at m h))
 
--- the row of an entry inside has room, and so has its column
-module _ (m : Masks) (i : ℕ) (h : i < m.shape.rows) (r : Result ℕ Refusal) (e : r ≡ spread_answer i m.row_mask) where
-  row_ok : r ≡ Ok (spread i m.row_mask)
-  row_ok = e ∙ spread_ok i m.row_mask (room i m.shape.rows m.row_mask m.tall.0 h m.rowbits)
+-- a row or a column inside a side has room under the side's mask
+module _ (i side mask : ℕ) (one : 1 ≤ side) (h : i < side) (bits : ones mask ≡ width (side - 1)) (r : Result ℕ Refusal) (e : r ≡ spread_answer i mask) where
+  part_ok : r ≡ Ok (spread i mask)
+  part_ok = e ∙ spread_ok i mask (room i side mask one h bits)
 
-  pub row_accepted : is_ok r ≡ true
-  row_accepted = ap is_ok row_ok
+  pub part_accepted : is_ok r ≡ true
+  part_accepted = ap is_ok part_ok
 
-  pub row_told : (v : ℕ) → r ≡ Ok v → v ≡ spread i m.row_mask
-  row_told v p = ok_same v (spread i m.row_mask) r p row_ok
-
-module _ (m : Masks) (j : ℕ) (h : j < m.shape.columns) (r : Result ℕ Refusal) (e : r ≡ spread_answer j m.column_mask) where
-  column_ok : r ≡ Ok (spread j m.column_mask)
-  column_ok = e ∙ spread_ok j m.column_mask (room j m.shape.columns m.column_mask m.broad.0 h m.columnbits)
-
-  pub column_accepted : is_ok r ≡ true
-  column_accepted = ap is_ok column_ok
-
-  pub column_told : (v : ℕ) → r ≡ Ok v → v ≡ spread j m.column_mask
-  column_told v p = ok_same v (spread j m.column_mask) r p column_ok
+  pub part_told : (v : ℕ) → r ≡ Ok v → v ≡ spread i mask
+  part_told v p = ok_same v (spread i mask) r p part_ok
 
 -- the two parts of a cell add up within the positions
 pub parts_small : (m : Masks) (i j v w : ℕ) → v ≡ spread i m.row_mask → w ≡ spread j m.column_mask → v + w < 2 ^ 24

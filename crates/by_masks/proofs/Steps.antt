@@ -2,7 +2,10 @@
 use Rattle.std.proofs.Common.{◌≡◌, ℕ, ◌+◌, ◌-◌, ◌%◌, ◌^◌, ◌<◌, true, is_ok, Ok, Result, sym, ap, ◌∙◌, mod-eq_of_lt, arith}
 use lib.Bits.{bit_and}
 use lib.Count.{ones}
-use Rattle.fields.specs.Fields.{spread}
+use Rattle.std.proofs.lemmas.Bool.{lt-ltb}
+use Rattle.fields.specs.Fields.{spread, gather}
+use Rattle.fields.proofs.Fields.{spread_gather, gather_spread}
+use Rattle.masked.specs.Fields.{spread_answer}
 use Rattle.masked.specs.Arithmetic.{sum_answer}
 use Rattle.masked.specs.declared.refusal.Refusal.{Refusal}
 use Rattle.masked.proofs.Ordinary.{ordinary}
@@ -13,6 +16,7 @@ use Rattle.by_masks.specs.Layouts.{masks_plan}
 use Rattle.by_masks.specs.Moves.{Moved}
 use Rattle.by_masks.specs.declared.masks.Masks.{Masks}
 use Rattle.by_masks.specs.Fits.{masks_fit}
+use Rattle.by_masks.proofs.Calls.{parts_small}
 
 -- where the given cell's entry and the entry reached lie inside, the answer is the latter's cell
 pub moved_inside : (s : Site) (at i j a b : ℕ) (answer : Result ℕ Refusal) → Lawful s → Inside s i j → s.cell i j ≡ at → Inside s (i + a) (j + b) → answer ≡ Ok (s.cell (i + a) (j + b)) → Moved s at a b answer
@@ -22,6 +26,9 @@ moved_inside s at i j a b answer law h e to told = record {
   unowned = λ none. absurd (none i j h e);
 }
 
+ok_same : (a b : ℕ) (r : Result ℕ Refusal) → r ≡ Ok a → r ≡ Ok b → a ≡ b
+ok_same a b r p q = cc
+
 -- the sum of two numbers that together have room
 summed : (x y m : ℕ) → m < 2 ^ 32 → x + y < 2 ^ ones m → sum_answer (spread x m) (spread y m) m ≡ Ok (spread (x + y) m)
 summed x y m small h =
@@ -29,50 +36,55 @@ summed x y m small h =
     let e : (x + y) % 2 ^ ones m ≡ x + y = mod-eq_of_lt h in
     o.summed ∙ ap (λ n. Ok (spread n m)) e
 
-ok_same : (a b : ℕ) (r : Result ℕ Refusal) → r ≡ Ok a → r ≡ Ok b → a ≡ b
-ok_same a b r p q = cc
+-- a number with no bit outside m, and one that together with what is gathered of it has room
+module _ (v d m : ℕ) (small : m < 2 ^ 32) (inside : bit_and v m ≡ v) (h : gather v m + d < 2 ^ ones m) where
+  again : spread (gather v m) m ≡ v
+  again = spread_gather v m small ∙ inside
 
-module _ (m : Masks) (at i j d : ℕ) (h : Inside (site_of (masks_plan m)) i j) (e : spread i m.row_mask + spread j m.column_mask ≡ at) where
-  row_of : bit_and at m.row_mask ≡ spread i m.row_mask
-  row_of = ap (λ a. bit_and a m.row_mask) (sym e) ∙ row_part _ _ m.row_mask m.column_mask (masks_fit m) i j
+  -- the distance has room too
+  stepped : spread_answer d m ≡ Ok (spread d m)
+  stepped = rw (lt-ltb d (2 ^ ones m) (omega arith))
 
-  column_of : bit_and at m.column_mask ≡ spread j m.column_mask
-  column_of = ap (λ a. bit_and a m.column_mask) (sym e) ∙ column_part _ _ m.row_mask m.column_mask (masks_fit m) i j
+  pub step_accepted : (r : Result ℕ Refusal) → r ≡ spread_answer d m → is_ok r ≡ true
+  step_accepted r e = ap is_ok (e ∙ stepped)
 
-  -- to the right
-  module _ (step : d < m.shape.columns - j) (v : ℕ) (is : v ≡ spread d m.column_mask) (r : Result ℕ Refusal) (told : r ≡ sum_answer (bit_and at m.column_mask) v m.column_mask) where
-    right : r ≡ Ok (spread (j + d) m.column_mask)
-    right =
-        told ∙ rw (column_of, is) (summed j d m.column_mask (omega (arith, m.columnplaces)) (room (j + d) m.shape.columns m.column_mask m.broad.0 (omega arith) m.columnbits))
+  -- the sum with the distance
+  module _ (step : ℕ) (r : Result ℕ Refusal) (e : r ≡ spread_answer d m) (told : r ≡ Ok step) (sum : Result ℕ Refusal) (f : sum ≡ sum_answer v step m) where
+    moved : sum ≡ Ok (spread (gather v m + d) m)
+    moved =
+        let is : step ≡ spread d m = ok_same step (spread d m) r told (e ∙ stepped) in
+        f ∙ rw is (ap (λ a. sum_answer a (spread d m) m) (sym again) ∙ summed (gather v m) d m small h)
 
-    pub right_accepted : is_ok r ≡ true
-    right_accepted = ap is_ok right
+    pub sum_accepted : is_ok sum ≡ true
+    sum_accepted = ap is_ok moved
 
-    pub right_is : (w : ℕ) → r ≡ Ok w → w ≡ spread (j + d) m.column_mask
-    right_is w p = ok_same w (spread (j + d) m.column_mask) r p right
+    pub sum_told : (w : ℕ) → sum ≡ Ok w → w ≡ spread (gather v m + d) m
+    sum_told w p = ok_same w (spread (gather v m + d) m) sum p moved
 
-    pub beside_moved : (w : ℕ) → r ≡ Ok w → Moved (site_of (masks_plan m)) at 0 d (Ok (bit_and at m.row_mask + w))
-    beside_moved w p =
-        let z : i + 0 ≡ i = omega arith in
-        moved_inside (site_of (masks_plan m)) at i j 0 d (Ok (bit_and at m.row_mask + w)) (lawful_masks _ _ _ _ (masks_fit m)) h e
-        (omega (arith, h.0), omega arith)
-        (rw (row_of, right_is w p, z))
+-- the two parts of the cell reached add up within the positions
+pub moved_small : (m : Masks) (at a b v w : ℕ) → v ≡ spread (gather (bit_and at m.row_mask) m.row_mask + a) m.row_mask → w ≡ spread (gather (bit_and at m.column_mask) m.column_mask + b) m.column_mask → v + w < 2 ^ 24
+moved_small m at a b v w p q = parts_small m (gather (bit_and at m.row_mask) m.row_mask + a) (gather (bit_and at m.column_mask) m.column_mask + b) v w p q
 
-  -- downward
-  module _ (step : d < m.shape.rows - i) (v : ℕ) (is : v ≡ spread d m.row_mask) (r : Result ℕ Refusal) (told : r ≡ sum_answer (bit_and at m.row_mask) v m.row_mask) where
-    down : r ≡ Ok (spread (i + d) m.row_mask)
-    down =
-        told ∙ rw (row_of, is) (summed i d m.row_mask (omega (arith, m.rowplaces)) (room (i + d) m.shape.rows m.row_mask m.tall.0 (omega arith) m.rowbits))
+-- the entry that lies at a cell, and how far it can be moved inside
+module _ (m : Masks) (at i j : ℕ) (h : Inside (site_of (masks_plan m)) i j) (e : spread i m.row_mask + spread j m.column_mask ≡ at) where
+  row_index : gather (bit_and at m.row_mask) m.row_mask ≡ i
+  row_index =
+      let part = ap (λ a. bit_and a m.row_mask) (sym e) ∙ row_part _ _ m.row_mask m.column_mask (masks_fit m) i j in
+      ap (λ v. gather v m.row_mask) part ∙ gather_spread i m.row_mask (omega (arith, m.rowplaces)) (room i m.shape.rows m.row_mask m.tall.0 h.0 m.rowbits)
 
-    pub down_accepted : is_ok r ≡ true
-    down_accepted = ap is_ok down
+  column_index : gather (bit_and at m.column_mask) m.column_mask ≡ j
+  column_index =
+      let part = ap (λ a. bit_and a m.column_mask) (sym e) ∙ column_part _ _ m.row_mask m.column_mask (masks_fit m) i j in
+      ap (λ v. gather v m.column_mask) part ∙ gather_spread j m.column_mask (omega (arith, m.columnplaces)) (room j m.shape.columns m.column_mask m.broad.0 h.1 m.columnbits)
 
-    pub down_is : (w : ℕ) → r ≡ Ok w → w ≡ spread (i + d) m.row_mask
-    down_is w p = ok_same w (spread (i + d) m.row_mask) r p down
+  pub row_room : (a : ℕ) → a < m.shape.rows - i → gather (bit_and at m.row_mask) m.row_mask + a < 2 ^ ones m.row_mask
+  row_room a l = rw row_index (room (i + a) m.shape.rows m.row_mask m.tall.0 (omega arith) m.rowbits)
 
-    pub beneath_moved : (w : ℕ) → r ≡ Ok w → Moved (site_of (masks_plan m)) at d 0 (Ok (w + bit_and at m.column_mask))
-    beneath_moved w p =
-        let z : j + 0 ≡ j = omega arith in
-        moved_inside (site_of (masks_plan m)) at i j d 0 (Ok (w + bit_and at m.column_mask)) (lawful_masks _ _ _ _ (masks_fit m)) h e
-        (omega arith, omega (arith, h.1))
-        (rw (column_of, down_is w p, z))
+  pub column_room : (b : ℕ) → b < m.shape.columns - j → gather (bit_and at m.column_mask) m.column_mask + b < 2 ^ ones m.column_mask
+  column_room b l = rw column_index (room (j + b) m.shape.columns m.column_mask m.broad.0 (omega arith) m.columnbits)
+
+  pub moved_there : (a b v w : ℕ) → a < m.shape.rows - i → b < m.shape.columns - j → v ≡ spread (gather (bit_and at m.row_mask) m.row_mask + a) m.row_mask → w ≡ spread (gather (bit_and at m.column_mask) m.column_mask + b) m.column_mask → Moved (site_of (masks_plan m)) at a b (Ok (v + w))
+  moved_there a b v w k l p q =
+      moved_inside (site_of (masks_plan m)) at i j a b (Ok (v + w)) (lawful_masks _ _ _ _ (masks_fit m)) h e
+      (omega arith, omega arith)
+      (rw (p, q, row_index, column_index))

@@ -1,4 +1,6 @@
 // Moving along rows and columns without leaving the cell numbers.
+ghost use Rattle.std.specs.Prelude.{◌≡◌, ◌+◌, ◌^◌, ◌<◌, bit_and, count_ones};
+ghost use Rattle.fields.specs.Fields.{spread as spread_of, gather as gather_of};
 ghost use Rattle.by_masks.specs.Layouts.{masks_plan};
 ghost use Rattle.by_masks.specs.Moves.{Moved};
 ghost use Rattle.plans.specs.Plans.{site_of};
@@ -12,29 +14,36 @@ impl Masks {
     pub fn beside(&self, cell: u32, distance: u32) -> Result<u32, Refusal>
         ensures { Moved (site_of (masks_plan self.now)) cell 0 distance result }
     {
-        let Some((_, column)) = self.owner(cell) else {
-            return Err(Refusal::Outside);
-        };
-        if distance >= self.shape.columns - column {
-            return Err(Refusal::Outside);
-        }
-        let step = spread(distance, self.column_mask).unwrap();
-        let column_part = sum(cell & self.column_mask, step, self.column_mask).unwrap();
-        Ok((cell & self.row_mask) + column_part)
+        self.moved(cell, 0, distance)
     }
 
     // The cell that lies `distance` rows beneath a cell, in the same column.
     pub fn beneath(&self, cell: u32, distance: u32) -> Result<u32, Refusal>
         ensures { Moved (site_of (masks_plan self.now)) cell distance 0 result }
     {
-        let Some((row, _)) = self.owner(cell) else {
-            return Err(Refusal::Outside);
-        };
-        if distance >= self.shape.rows - row {
+        self.moved(cell, distance, 0)
+    }
+
+    // The cell that lies so many rows beneath a cell and so many columns to the right.
+    fn moved(&self, cell: u32, rows: u32, columns: u32) -> Result<u32, Refusal>
+        ensures { Moved (site_of (masks_plan self.now)) cell rows columns result }
+    {
+        let (row, column) = self.owner(cell).ok_or(Refusal::Outside)?;
+        if rows >= self.shape.rows - row || columns >= self.shape.columns - column {
             return Err(Refusal::Outside);
         }
-        let step = spread(distance, self.row_mask).unwrap();
-        let row_part = sum(cell & self.row_mask, step, self.row_mask).unwrap();
-        Ok(row_part + (cell & self.column_mask))
+        let row_part = moved_part(cell & self.row_mask, rows, self.row_mask);
+        let column_part = moved_part(cell & self.column_mask, columns, self.column_mask);
+        Ok(row_part + column_part)
     }
+}
+
+// The part of a cell under a mask, moved on by a distance: the field's sum, which does not come round.
+fn moved_part(part: u32, distance: u32, mask: u32) -> u32
+    requires inside { bit_and part mask ≡ part }
+    requires room { gather_of part mask + distance < 2 ^ count_ones mask }
+    ensures { result ≡ spread_of (gather_of part mask + distance) mask }
+{
+    let step = spread(distance, mask).unwrap();
+    sum(part, step, mask).unwrap()
 }
