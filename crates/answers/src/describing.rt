@@ -12,7 +12,7 @@ use masked::Refusal;
 use orders::named;
 use placement::{Placement, Shape, idle};
 use std::alloc::{AllocError, Global};
-use texts::{push_hex, push_number};
+use texts::Hex;
 
 // How many bytes of an input are read. The rest is ignored.
 const LIMIT: usize = 4096;
@@ -21,16 +21,12 @@ const LIMIT: usize = 4096;
 fn asked(line: &[u8]) -> Result<Layout, Refusal>
     ensures { planned layout_plan result ≡ asked_of (request_of line.now) }
 {
-    match Request::read(line) {
-        Some(request) => {
-            let shape = Shape {
-                rows: request.rows,
-                columns: request.columns,
-            };
-            named(request.letter, shape, request.inner)
-        }
-        None => Err(Refusal::Order),
-    }
+    let request = Request::read(line).ok_or(Refusal::Order)?;
+    let shape = Shape {
+        rows: request.rows,
+        columns: request.columns,
+    };
+    named(request.letter, shape, request.inner)
 }
 
 // Appends the descriptor, the span and the idle count.
@@ -39,23 +35,18 @@ fn push_layout(out: &mut String, layout: &Layout) -> Result<(), AllocError>
 {
     let mut bytes = [0u8; LONGEST];
     let len = write(layout, &mut bytes).unwrap();
-    push_hex(out, &bytes[0..len])?;
-    out.push(' ')?;
-    push_number(out, layout.span())?;
-    out.push(' ')?;
-    push_number(out, idle(layout))?;
-    out.push('\n')?;
-    Ok(())
+    let descriptor = Hex(&bytes[..len]);
+    let span = layout.span();
+    let idle = idle(layout);
+    writeln!(out, "{descriptor} {span} {idle}")
 }
 
 // Appends the refusal.
 fn push_refusal(out: &mut String, refusal: Refusal) -> Result<(), AllocError>
     ensures { OnOk result (string_bytes out.new ≡ string_bytes out.old ++ refusal_text refusal) }
 {
-    out.push_str("no ")?;
-    push_number(out, u32::from(refusal.number()))?;
-    out.push('\n')?;
-    Ok(())
+    let number = refusal.number();
+    writeln!(out, "no {number}")
 }
 
 // Appends the answer to one line.
@@ -73,7 +64,7 @@ pub fn describe(heap: Global, input: &[u8]) -> Result<String, AllocError>
     ensures { IfOk result (λ text. string_bytes text ≡ answers input.now) }
 {
     let mut out = String::new(heap);
-    let mut rest = &input[0..input.len().min(LIMIT)];
+    let mut rest = &input[..input.len().min(LIMIT)];
     while let Some((line, after)) = split_line(rest) {
         push_answer(&mut out, line)?;
         rest = after;

@@ -1,4 +1,3 @@
-pub mod Counts
 pub mod Numbers
 pub mod Reading
 pub mod Spellings

@@ -6,11 +6,7 @@ ghost use Rattle.lines.specs.Lines.{line_length, Split, LinesLaw};
 fn line_length(input: &[u8]) -> usize
     ensures { result ≡ line_length input.now }
 {
-    let mut n = 0usize;
-    while n < input.len() && input[n] != b'\n' {
-        n += 1;
-    }
-    n
+    input.iter().take_while(|b| **b != b'\n').count()
 }
 
 // The first line, and what follows the newline that ends it. Where the input ends the line, nothing follows.

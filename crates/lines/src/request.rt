@@ -8,11 +8,7 @@ ghost use Rattle.lines.specs.Requests.{value_of, plain, digit_count, number_at, 
 fn digit_count(bytes: &[u8]) -> usize
     ensures { result ≡ digit_count bytes.now }
 {
-    let mut n = 0usize;
-    while n < bytes.len() && bytes[n].is_ascii_digit() {
-        n += 1;
-    }
-    n
+    bytes.iter().take_while(|b| b.is_ascii_digit()).count()
 }
 
 // A number has one to four digits, and no zero in front unless it is just "0".

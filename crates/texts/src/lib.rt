@@ -1,6 +1,6 @@
-// Bytes in hexadecimal and numbers in decimal, at the end of a text.
+// Bytes in hexadecimal, as text.
 #![tactic(auto)]
 
 mod text;
 
-pub use text::{push_hex, push_number};
+pub use text::Hex;
