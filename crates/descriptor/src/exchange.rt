@@ -19,11 +19,7 @@ pub fn same_placement(left: &[u8], right: &[u8]) -> Result<bool, Mismatch>
     ensures answer { Compared left.now right.now result }
     ensures law { OneForm }
 {
-    if let Err(fault) = read(left) {
-        return Err(Mismatch::Left(fault));
-    }
-    if let Err(fault) = read(right) {
-        return Err(Mismatch::Right(fault));
-    }
+    read(left).map_err(Mismatch::Left)?;
+    read(right).map_err(Mismatch::Right)?;
     Ok(left == right)
 }

@@ -16,10 +16,9 @@ mod tests {
 
     // The number of the refusal and its place, or none where the input is accepted.
     fn refused(input: &[u8]) -> Option<(u8, usize)> {
-        match read(input) {
-            Ok(_) => None,
-            Err(fault) => Some((fault.refusal.number(), fault.place)),
-        }
+        read(input)
+            .err()
+            .map(|fault| (fault.refusal.number(), fault.place))
     }
 
     #[test]
