@@ -1,5 +1,6 @@
 // A block of a quadtree: its level and its Morton index, and the two indices that number the blocks of all levels.
 ghost use Rattle.std.specs.Prelude.{◌≡◌};
+ghost use Rattle.fields.specs.Fields.{gather as gather_of};
 ghost use Rattle.quadtree.specs.Blocks.{ahnentafel_of, level_order_of, start_answer, index_answer, BlockAt};
 ghost use Rattle.quadtree.specs.Laws.{Tree, Ahnentafel, LevelOrder, ThereAndBack};
 ghost use Rattle.quadtree.specs.Places.{row_of, column_of, ChildRows, ChildColumns};
@@ -16,6 +17,13 @@ const ROW_BITS: u32 = 0xaaaa_aaaa;
 
 // The even bits, which make up the column.
 const COLUMN_BITS: u32 = 0x5555_5555;
+
+// The bits of a Morton index under a mask.
+fn bits_under(morton: u32, mask: u32) -> u32
+    ensures { result ≡ gather_of morton mask }
+{
+    gather(morton & mask, mask).unwrap()
+}
 
 // A block at level l, 0 to 12, has a Morton index below 4^l. Other values can be written, and are no block.
 #[derive(Clone, Copy, PartialEq, Eq, Debug)]
@@ -98,7 +106,7 @@ impl Block {
         ensures value { result ≡ row_of self.morton }
         ensures law { ChildRows }
     {
-        gather(self.morton & ROW_BITS, ROW_BITS).unwrap()
+        bits_under(self.morton, ROW_BITS)
     }
 
     // The column of the block among those of its level: the even bits of the Morton index.
@@ -106,6 +114,6 @@ impl Block {
         ensures value { result ≡ column_of self.morton }
         ensures law { ChildColumns }
     {
-        gather(self.morton & COLUMN_BITS, COLUMN_BITS).unwrap()
+        bits_under(self.morton, COLUMN_BITS)
     }
 }

@@ -1,12 +1,5 @@
-use Rattle.std.proofs.Common.{arith}
-use Rattle.quadtree.proofs.Places.{accepted, told, rows}
+use Rattle.quadtree.proofs.Places.{rows}
 use Rattle.quadtree.proofs.block.Block.row.Goals as goal
 
-pub unwrap-requires : goal.unwrap-requires
-unwrap-requires c = accepted c.args.self.morton _ (omega arith) c.gather.result c.gather.ensures.value
-
-pub returns : goal.returns
-returns c = record {
-  value = told c.args.self.morton 0xaaaa_aaaa (omega arith) c.gather.result c.gather.ensures.value c.unwrap.result c.unwrap.ensures;
-  law = rows;
-}
+pub returns-clause-law : goal.returns-clause-law
+returns-clause-law c = rows
