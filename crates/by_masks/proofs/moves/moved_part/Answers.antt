@@ -1,9 +1,6 @@
 use Rattle.std.proofs.Common.{arith}
-use Rattle.by_masks.proofs.Steps.{step_accepted, sum_accepted, sum_told}
+use Rattle.by_masks.proofs.Steps.{sum_accepted, sum_told}
 use Rattle.by_masks.proofs.moves.moved_part.Goals as goal
-
-pub unwrap-step-requires : goal.unwrap-step-requires
-unwrap-step-requires c = step_accepted c.args.part c.args.distance c.args.mask (omega arith) c.requires.inside c.requires.room _ c.spread.ensures.value
 
 pub unwrap-requires : goal.unwrap-requires
 unwrap-requires c = sum_accepted c.args.part c.args.distance c.args.mask (omega arith) c.requires.inside c.requires.room _ _ c.spread.ensures.value c.unwrap-step.ensures _ c.sum.ensures.value

@@ -1,7 +1,7 @@
 use Rattle.std.proofs.Common.{sym, arith}
 use Rattle.std.specs.Char.{is_ascii_digit}
 use Rattle.std.proofs.lemmas.List.Sums.{prefix_len-le-length}
-use Rattle.lines.proofs.Numbers.{number_plain, number_other, digits_plain}
+use Rattle.lines.proofs.Numbers.{digits_plain}
 use Rattle.lines.proofs.request.number.Goals as goal
 
 pub split_at-requires : goal.split_at-requires
@@ -11,9 +11,3 @@ pub value-requires : goal.value-requires
 value-requires c =
     let h = digits_plain c.args.bytes.now _ c.digit_count.ensures c.split_at.ensures.front (sym c.if-is_plain.ensures) in
     record { all = h.0; short = h.1 }
-
-pub returns-then-is_plain : goal.returns-then-is_plain
-returns-then-is_plain c = number_plain c.args.bytes.now _ c.digit_count.ensures c.split_at.ensures.front c.split_at.ensures.back (sym c.if-is_plain.ensures) c.value.ensures
-
-pub returns-else-is_plain : goal.returns-else-is_plain
-returns-else-is_plain c = number_other c.args.bytes.now _ c.digit_count.ensures c.split_at.ensures.front (sym c.if-is_plain.ensures)

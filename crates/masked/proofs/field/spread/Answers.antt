@@ -3,7 +3,7 @@ use lib.Count.{ones}
 use Rattle.std.proofs.lemmas.Bool.{cases_lt, lt-ltb, le-ltb}
 use Rattle.fields.specs.Fields.{width}
 use Rattle.fields.proofs.Fields.{spread_law}
-use Rattle.fields.proofs.Turns.{some_left, spread_turn_one, spread_turn_zero, spread_fits, spread_done}
+use Rattle.fields.proofs.Turns.{spread_turn_one, spread_turn_zero, spread_fits, spread_done}
 use Rattle.fields.proofs.Widths.{below_width, width_below}
 use Rattle.masked.proofs.field.spread.Goals as goal
 use Rattle.masked.proofs.field.spread.Goals.{then-bits-eq1, else-bits-eq1}
@@ -18,9 +18,6 @@ pub loop-bits-init : goal.loop-bits-init
 loop-bits-init c =
     let w : width c.args.n ≤ ones c.args.mask = omega arith in
     (omega arith, below_width c.args.n (ones c.args.mask) w, omega arith)
-
-pub overflow_sub-rest : goal.overflow_sub-rest
-overflow_sub-rest c = omega (arith, some_left c.loop-bits.bits c.loop-bits.left c.loop-bits.invariant.1 (omega arith))
 
 pub overflow_add-out : goal.overflow_add-out
 overflow_add-out c =

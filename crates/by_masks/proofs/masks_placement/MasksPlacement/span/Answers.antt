@@ -20,10 +20,3 @@ overflow_add-result c = omega (arith, small c)
 
 pub overflow_add-result-2 : goal.overflow_add-result-2
 overflow_add-result-2 c = omega (arith, small c)
-
-pub returns : goal.returns
-returns c =
-    let m = c.args.self.now in
-    let i = part_told _ _ _ m.tall.0 (omega (arith, m.tall.0)) m.rowbits _ c.spread.ensures.value _ c.unwrap-row_part.ensures in
-    let j = part_told _ _ _ m.broad.0 (omega (arith, m.broad.0)) m.columnbits _ c.spread-2.ensures.value _ c.unwrap-column_part.ensures in
-    omega arith
