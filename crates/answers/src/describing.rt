@@ -15,7 +15,7 @@ use std::alloc::{AllocError, Global};
 use texts::Hex;
 
 // How many bytes of an input are read. The rest is ignored.
-const LIMIT: usize = 4096;
+pub const LIMIT: usize = 4096;
 
 // The layout that a line asks for.
 fn asked(line: &[u8]) -> Result<Layout, Refusal>

@@ -3,4 +3,4 @@
 
 mod describing;
 
-pub use describing::describe;
+pub use describing::{LIMIT, describe};
