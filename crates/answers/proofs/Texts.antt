@@ -1,16 +1,10 @@
 -- The text of the answers, line by line.
-use Rattle.std.proofs.Common.{◌≡◌, ℕ, ◌≤◌, ◌<◌, min, List, [], ◌∷◌, ◌++◌, length, take, ◌∙◌, ⊎_elim, append_assoc, arith}
+use Rattle.std.proofs.Common.{◌≡◌, ℕ, ◌≤◌, ◌<◌, min, List, [], ◌++◌, length, take, ⊎_elim, arith}
 use Rattle.std.specs.List.{flat_map}
 use Rattle.std.proofs.lemmas.List.{take_all}
 use Rattle.std.proofs.lemmas.Bool.{cases_lt}
 use Rattle.lines.specs.Lines.{lines}
 use Rattle.answers.specs.Answers.{line_answer, answers}
-
--- one line more
-pub line_more : (out next : List ℕ) (input line rest whole : List ℕ) → lines input ≡ line ∷ lines rest → next ≡ out ++ line_answer line → out ++ flat_map line_answer (lines input) ≡ whole → next ++ flat_map line_answer (lines rest) ≡ whole
-line_more out next input line rest whole split told inv =
-    let opened : out ++ (line_answer line ++ flat_map line_answer (lines rest)) ≡ whole = rw split at inv in
-    rw told (append_assoc out (line_answer line) (flat_map line_answer (lines rest)) ∙ opened)
 
 -- the first 4,096 bytes, as the code cuts them
 pub cut : (input : List ℕ) (n : ℕ) → n ≡ min (length input) 4096 → take n input ≡ take 4096 input

@@ -1,13 +1,12 @@
 -- Digits at the front of a list, and the numbers that they write.
-use Rattle.std.proofs.Common.{◌≡◌, ℕ, zero, suc, ◌+◌, ◌-◌, ◌*◌, ◌<◌, ◌≤◌, true, false, leb, List, [], ◌∷◌, length, get_or, take, drop, Some, None, fold, sym, refl, ap, ◌∙◌, ⊎_elim, one-add, arith, rules}
+use Rattle.std.proofs.Common.{◌≡◌, ℕ, zero, suc, ◌+◌, ◌-◌, ◌*◌, ◌<◌, ◌≤◌, true, false, leb, List, [], ◌∷◌, length, take, fold, refl, ap, ◌∙◌, ⊎_elim, one-add, arith, rules}
 use Rattle.std.specs.Char.{is_ascii_digit}
-use Rattle.std.specs.Int.{IsInRange, is_in_range}
+use Rattle.std.specs.Int.{is_in_range}
 use Rattle.std.specs.Str.{all_ascii_digits}
-use Rattle.std.proofs.lemmas.List.{length-take-le, take_all}
-use Rattle.std.proofs.lemmas.Str.Parse.{IsNumeralModel, numerals_by_fold, digit_at, digits_value_short}
-use Rattle.std.proofs.lemmas.List.Sums.{fold_more}
-use Rattle.std.proofs.lemmas.Bool.{cases_Bool, and_parts, and_from, leb-true, eq-eqb, cond-true, cond-false}
-use Rattle.lines.specs.Requests.{value_of, plain, digit_count, number_at, field_at}
+use Rattle.std.proofs.lemmas.List.{length-take-le}
+use Rattle.std.proofs.lemmas.Str.Parse.{IsNumeralModel, numerals_by_fold, digits_value_short}
+use Rattle.std.proofs.lemmas.Bool.{cases_Bool, and_parts, and_from, leb-true}
+use Rattle.lines.specs.Requests.{value_of, plain, digit_count}
 
 pub own : IsNumeralModel (λ ds. all_ascii_digits ds ≡ true) value_of
 own = numerals_by_fold _ (search rules) (λ n ds. fold (λ m d. m * 10 + (d - 48)) n ds) (search rules)
@@ -27,15 +26,9 @@ all_front (b ∷ bs) =
     (λ (e : is_ascii_digit b ≡ false). simp e)
     (cases_Bool (is_ascii_digit b))
 
-pub digit_of : (ds : List ℕ) (i : ℕ) → all_ascii_digits ds ≡ true → i < length ds → IsInRange 48 57 (get_or ds i 0)
-digit_of ds i a h = digit_at ds i (own.to ds a) h
-
 -- The first three digits of four leave room for one more.
 pub value_room : (ds : List ℕ) (i : ℕ) → all_ascii_digits ds ≡ true → length ds ≤ 4 → i < length ds → value_of (take i ds) < 1000
 value_room ds i a s h = digits_value_short own (take i ds) 3 (all_take ds i a) (omega (arith, length-take-le i ds (omega arith)))
-
-pub value_more : (ds : List ℕ) (i : ℕ) → i < length ds → value_of (take (i + 1) ds) ≡ value_of (take i ds) * 10 + (get_or ds i 0 - 48)
-value_more ds i h = fold_more (λ m d. m * 10 + (d - 48)) 0 ds i 0 h
 
 pub plain_short : (ds : List ℕ) → plain ds ≡ true → length ds ≤ 4
 plain_short ds p =
@@ -48,17 +41,3 @@ module _ (bs : List ℕ) (n : ℕ) {ds : List ℕ} where
 
   pub digits_plain : n ≡ digit_count bs → ds ≡ take n bs → plain ds ≡ true → (all_ascii_digits ds ≡ true) × (length ds ≤ 4)
   digits_plain e f p = (ap all_ascii_digits (front_is e f) ∙ all_front bs, plain_short ds p)
-
-  pub number_plain : {rest : List ℕ} {v : ℕ} → n ≡ digit_count bs → ds ≡ take n bs → rest ≡ drop n bs → plain ds ≡ true → v ≡ value_of ds → Some (v, rest) ≡ number_at bs
-  number_plain e f b p w =
-      let q : plain (take (digit_count bs) bs) ≡ true = ap plain (sym (front_is e f)) ∙ p in
-      (λ i. Some ((w ∙ ap value_of (front_is e f)) i, (b ∙ ap (λ k. drop k bs) e) i)) ∙ sym (cond-true _ _ None q)
-
-  pub number_other : n ≡ digit_count bs → ds ≡ take n bs → plain ds ≡ false → None ≡ number_at bs
-  number_other e f p =
-      let q : plain (take (digit_count bs) bs) ≡ false = ap plain (sym (front_is e f)) ∙ p in
-      sym (cond-false _ _ None q)
-
-pub field_blank : (bs : List ℕ) → 0 < length bs → get_or bs 0 0 ≡ 32 → number_at (take (length bs - 1) (drop 1 bs)) ≡ field_at bs
-field_blank [] h e = absurd (omega arith)
-field_blank (b ∷ bs) h e = ap number_at (take_all (length (b ∷ bs) - 1) bs (omega arith)) ∙ sym (cond-true _ _ None (eq-eqb b 32 e))

@@ -1,11 +1,11 @@
 -- The two indices: their laws, what a call answers, and what comes back.
-use Rattle.std.proofs.Common.{◌≡◌, ℕ, ◌+◌, ◌*◌, ◌^◌, ◌<◌, ◌≤◌, true, false, ltb, leb, Ok, Err, sym, refl, ap, ◌∙◌, ⊎_elim, arith}
-use Rattle.std.proofs.lemmas.Bool.{cases_order, cases_Bool, and_from, and_right, and_parts, le-leb, lt-ltb, le-ltb, leb-true, ltb-true}
+use Rattle.std.proofs.Common.{◌≡◌, ℕ, ◌+◌, ◌*◌, ◌^◌, ◌<◌, true, ltb, leb, Ok, Err, sym, refl, ap, ◌∙◌, ⊎_elim, arith}
+use Rattle.std.proofs.lemmas.Bool.{cases_order, cases_Bool, and_from, and_parts, le-leb, lt-ltb, leb-true, ltb-true}
 use Rattle.masked.specs.declared.refusal.Refusal.{Refusal}
 use Rattle.masked.specs.declared.refusal.Refusal.TheVariants.{Block as NoBlock}
 use Rattle.quadtree.specs.declared.block.Block.{Block}
 use Rattle.quadtree.specs.Blocks.{IsBlock, is_block, ahnentafel_of, level_order_of, index_answer, start_answer, HasIndex, BlockAt}
-use Rattle.quadtree.specs.Laws.{Tree, Ahnentafel, LevelOrder, ThereAndBack}
+use Rattle.quadtree.specs.Laws.{Tree, LevelOrder, ThereAndBack}
 use Rattle.quadtree.proofs.Powers.{pow_more, level_third, level_more, pow_above, pow_small}
 
 pub tree : Tree
@@ -14,12 +14,6 @@ tree = record {
   only = λ m h. omega (arith, h.1);
   down = λ l m q less small h. (let p = pow_more l in (omega arith, omega (arith, h.1)));
   up = λ l m h. (let p = pow_more l in (omega (arith, h.0), omega (arith, h.1)));
-}
-
-pub ahnentafel_law : Ahnentafel
-ahnentafel_law = record {
-  root = refl;
-  child = λ l m q h. (let p = pow_more l in omega arith);
 }
 
 pub level_order_law : LevelOrder
@@ -34,10 +28,6 @@ block_true l m (h, k) = and_from (leb l 12) (ltb m (4 ^ l)) (le-leb l 12 h) (lt-
 
 pub true_block : (l m : ℕ) → is_block l m ≡ true → IsBlock l m
 true_block l m e = let p = and_parts (leb l 12) (ltb m (4 ^ l)) e in (leb-true l 12 p.0, ltb-true m (4 ^ l) p.1)
-
--- a Morton index that is too large
-pub morton_false : (l m : ℕ) → 4 ^ l ≤ m → is_block l m ≡ false
-morton_false l m h = and_right (leb l 12) (ltb m (4 ^ l)) (le-ltb m (4 ^ l) h)
 
 -- what a caller learns of a level start that is answered, and of a refusal
 pub started : (l m s : ℕ) → Ok s ≡ start_answer l m → IsBlock l m × (s ≡ 3 * 4 ^ l)
