@@ -1,8 +1,9 @@
 // Placements by a row stride and by a column stride.
 #![tactic(auto)]
 
-mod column_placement;
-mod row_placement;
+mod axis;
 mod strides;
+mod strides_placement;
 
-pub use strides::{ColumnStride, RowStride};
+pub use axis::{Axis, ByColumns, ByRows};
+pub use strides::{ColumnStride, RowStride, Strides};

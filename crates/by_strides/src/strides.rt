@@ -1,25 +1,48 @@
-// Strides: the numbers of a placement by rows, or by columns, that begin a fixed number of cells apart. The ghost fields
-// are what makes it legal, so that every value of the types is a placement.
-ghost use Rattle.std.specs.Prelude.{◌≤◌, ◌≢◌, count_ones};
+// Strides: the numbers of a placement by lines that begin a fixed number of cells apart. The ghost field is what makes it
+// legal, so that every value of the type is a placement.
+ghost use Rattle.std.specs.Prelude.{◌≡◌, ⊤};
+ghost use Rattle.plans.specs.Conditions.{StrideFits};
+ghost use Rattle.plans.specs.Plans.{line_of, place_of};
 
+
+use crate::axis::{Axis, ByColumns, ByRows};
 use placement::Shape;
+use std::alloc::AllocError;
+use std::marker::PhantomData;
 
-#[derive(Clone, Copy)]
-pub struct RowStride {
+pub struct Strides<A: Axis> {
     pub shape: Shape,
     pub stride: u32,
-    ghost near: { (1 ≤ shape.columns) × (shape.columns ≤ stride) },
-    ghost limit: { stride ≤ 4095 },
-    ghost strided: { (2 ≤ shape.rows) × (shape.rows ≤ 4096) },
-    ghost nopower: { count_ones stride ≢ 1 },
+    axis: PhantomData<A>,
+    pub ghost legal: { StrideFits (place_of A.turns shape.rows shape.columns) (line_of A.turns shape.rows shape.columns) stride },
 }
 
-#[derive(Clone, Copy)]
-pub struct ColumnStride {
-    pub shape: Shape,
-    pub stride: u32,
-    ghost near: { (1 ≤ shape.rows) × (shape.rows ≤ stride) },
-    ghost limit: { stride ≤ 4095 },
-    ghost strided: { (2 ≤ shape.columns) × (shape.columns ≤ 4096) },
-    ghost nopower: { count_ones stride ≢ 1 },
+impl<A: Axis> Strides<A> {
+    pub fn new(shape: Shape, stride: u32) -> Strides<A>
+        requires { StrideFits (place_of A.turns shape.rows shape.columns) (line_of A.turns shape.rows shape.columns) stride }
+        ensures shape { result.shape ≡ shape }
+        ensures stride { result.stride ≡ stride }
+    {
+        Strides {
+            shape,
+            stride,
+            axis: PhantomData,
+        }
+    }
 }
+
+impl<A: Axis> Copy for Strides<A> {}
+
+impl<A: Axis> Clone for Strides<A> {
+    ghost is_infallible = { λ _. ⊤ };
+
+    fn clone(&self) -> Result<Self, AllocError> {
+        Ok(*self)
+    }
+}
+
+// Each row begins a stride after the row before it.
+pub type RowStride = Strides<ByRows>;
+
+// Each column begins a stride after the column before it.
+pub type ColumnStride = Strides<ByColumns>;
