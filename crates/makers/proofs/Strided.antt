@@ -1,5 +1,5 @@
 -- A stride that masks can say: the masks are legal, and every entry lies where the stride puts it.
-use Rattle.std.proofs.Common.{◌≡◌, ℕ, ◌+◌, ◌-◌, ◌*◌, ◌^◌, ◌<◌, ◌≤◌, true, false, eqb, ◌⊎◌, Ok, ap, ◌∙◌, ⊎_elim, mul_comm, zero-mul, arith, pow_mono}
+use Rattle.std.proofs.Common.{◌≡◌, ℕ, ◌+◌, ◌-◌, ◌*◌, ◌^◌, ◌<◌, ◌≤◌, Bool, true, false, eqb, ◌⊎◌, Ok, ap, ◌∙◌, ⊎_elim, mul_comm, zero-mul, arith, pow_mono}
 use lib.Bits.{bit_and, and_comm}
 use lib.Count.{ones}
 use Rattle.std.proofs.lemmas.Nat.{mul-le}
@@ -10,8 +10,8 @@ use Rattle.fields.proofs.Lowest.{ones_none}
 use Rattle.fields.proofs.Runs.{spread_run, ones_run, run_unshared, power_of_two, ones_power}
 use Rattle.fields.proofs.Widths.{width_zero, width_below}
 use Rattle.plans.specs.Conditions.{Side, MasksFit, StrideFits}
-use Rattle.plans.specs.Plans.{by_masks}
-use Rattle.makers.specs.Makers.{shaped, side_bits, masked_stride, from_row_stride, from_column_stride}
+use Rattle.plans.specs.Plans.{by_masks, line_of, place_of}
+use Rattle.makers.specs.Makers.{shaped, side_bits, masked_stride, from_stride}
 use Rattle.makers.proofs.Kept.{shaped_means, side_width, side_room}
 
 -- the bits of a side stay below 2^12
@@ -117,43 +117,41 @@ can_test strided s =
     (λ e. or_left (eqb (ones s) 1) (eqb strided 1) (eq-eqb (ones s) 1 e))
     (λ e. or_right (eqb (ones s) 1) (eqb strided 1) (eq-eqb strided 1 e))
 
--- what the makers from a stride make by masks, from the numbers that their code holds
-pub record RowMade (r c s y x : ℕ) : Type 0 where
-  pub fit : MasksFit r c y x
-  pub plan : Ok (by_masks r c y x) ≡ from_row_stride r c s
-  pub places : (i j : ℕ) → i < r → j < c → spread i y + spread j x ≡ s * i + j
+-- lines and places are each 1 to 4,096
+pub sides : (turns : Bool) (r c : ℕ) → shaped r c ≡ true → Side (line_of turns r c) × Side (place_of turns r c)
+sides false r c h = shaped_means r c h
+sides true r c h = (let t = shaped_means r c h in (t.1, t.0))
 
-pub row_made : (r c s u v : ℕ) → shaped r c ≡ true → c ≤ s → s ≤ 4096 → (ones s ≡ 1) ⊎ (r ≡ 1) → u ≡ side_bits r → v ≡ side_bits c → RowMade r c s (u * s) v
-row_made r c s u v h reach top can eu ev =
-    let sides = shaped_means r c h in
-    rw (eu, ev) (record {
-      fit = row_fit c r s sides.1 sides.0 reach top can;
+-- what the maker from a stride makes by masks, from the numbers that its code holds
+pub record StrideMade (turns : Bool) (r c s y x : ℕ) : Type 0 where
+  pub fit : MasksFit r c y x
+  pub plan : Ok (by_masks r c y x) ≡ from_stride turns r c s
+  pub places : (i j : ℕ) → i < r → j < c → spread i y + spread j x ≡ s * line_of turns i j + place_of turns i j
+
+pub made : (turns : Bool) (r c s u v y x : ℕ) → shaped r c ≡ true → place_of turns r c ≤ s → s ≤ 4096 → (ones s ≡ 1) ⊎ (line_of turns r c ≡ 1) → u ≡ side_bits (line_of turns r c) → v ≡ side_bits (place_of turns r c) → y ≡ line_of turns (u * s) v → x ≡ place_of turns (u * s) v → StrideMade turns r c s y x
+made false r c s u v y x h reach top can eu ev ey ex =
+    let t = sides false r c h in
+    rw (ey, ex, eu, ev) (record {
+      fit = row_fit c r s t.1 t.0 reach top can;
       plan = rw (h, le-leb c s reach, le-leb s 4096 top, can_test r s can);
-      places = row_places c r s sides.1 sides.0 reach top can;
+      places = row_places c r s t.1 t.0 reach top can;
     })
-
-pub record ColumnMade (r c s y x : ℕ) : Type 0 where
-  pub fit : MasksFit r c y x
-  pub plan : Ok (by_masks r c y x) ≡ from_column_stride r c s
-  pub places : (i j : ℕ) → i < r → j < c → spread i y + spread j x ≡ s * j + i
-
-pub column_made : (r c s u v : ℕ) → shaped r c ≡ true → r ≤ s → s ≤ 4096 → (ones s ≡ 1) ⊎ (c ≡ 1) → u ≡ side_bits r → v ≡ side_bits c → ColumnMade r c s u (v * s)
-column_made r c s u v h reach top can eu ev =
-    let sides = shaped_means r c h in
-    rw (eu, ev) (record {
-      fit = column_fit r c s sides.0 sides.1 reach top can;
+made true r c s u v y x h reach top can eu ev ey ex =
+    let t = sides true r c h in
+    rw (ey, ex, eu, ev) (record {
+      fit = column_fit r c s t.1 t.0 reach top can;
       plan = rw (h, le-leb r s reach, le-leb s 4096 top, can_test c s can);
-      places = column_places r c s sides.0 sides.1 reach top can;
+      places = column_places r c s t.1 t.0 reach top can;
     })
 
 -- 4,096 is a power of two, so a stride that is none is below it
-pub stride_made : (near strided s : ℕ) → Side near → Side strided → near ≤ s → s ≤ 4096 → eqb (ones s) 1 ≡ false → (strided ≡ 1 → ⊥) → StrideFits near strided s
-stride_made near strided s a b reach top no_power more =
+pub stride_made : (strided near s : ℕ) → Side strided × Side near → near ≤ s → s ≤ 4096 → eqb (ones s) 1 ≡ false → (strided ≡ 1 → ⊥) → StrideFits near strided s
+stride_made strided near s sides reach top no_power more =
     let other = eqb-false (ones s) 1 no_power in
     let not_top : s ≡ 4096 → ⊥ = λ e. other (ap ones e ∙ ones_power 12) in
     record {
-      near_side = (a.0, reach);
+      near_side = (sides.1.0, reach);
       stride_limit = omega arith;
-      strided_side = (omega (arith, b.0), b.1);
+      strided_side = (omega (arith, sides.0.0), sides.0.1);
       no_power = other;
     }

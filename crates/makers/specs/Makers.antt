@@ -1,9 +1,9 @@
 -- What the makers answer: a layout's plan, or the first refusal that applies.
-use Rattle.std.specs.Prelude.{◌≡◌, ℕ, ◌-◌, ◌*◌, ◌^◌, ◌<◌, Bool, cond, ◌&&◌, ◌||◌, Ok, Err, Result, ◌==◌, bit_and, count_ones, nat_le, nat_lt}
+use Rattle.std.specs.Prelude.{◌≡◌, ℕ, ◌-◌, ◌*◌, ◌^◌, ◌<◌, Bool, true, false, cond, ◌&&◌, ◌||◌, Ok, Err, Result, ◌==◌, bit_and, count_ones, nat_le, nat_lt}
 use Rattle.fields.specs.Fields.{spread, width}
 use Rattle.masked.specs.declared.refusal.Refusal.{Refusal}
 use Rattle.masked.specs.declared.refusal.Refusal.TheVariants.{Shape, MaskBits, MaskPosition, MaskOverlap, Stride}
-use Rattle.plans.specs.Plans.{Plan, by_masks, by_row_stride, by_column_stride}
+use Rattle.plans.specs.Plans.{Plan, by_masks, by_stride, line_of, place_of}
 
 -- the refusal unless the condition holds, else what follows
 abbrev pub unless : Bool → Refusal → Result Plan Refusal → Result Plan Refusal
@@ -50,23 +50,29 @@ side_bits n = 2 ^ width (n - 1) - 1
 abbrev pub masked_stride : ℕ → ℕ → Bool
 masked_stride strided stride = count_ones stride == 1 || strided == 1
 
--- by a row stride: masks where they can say it, with the columns' bits from position 0 and the rows' bits from the stride's
-abbrev pub row_strided : ℕ → ℕ → ℕ → Plan
-row_strided rows columns stride = cond (masked_stride rows stride) (by_masks rows columns (side_bits rows * stride) (side_bits columns)) (by_row_stride rows columns stride)
+-- by a stride: masks where they can say it, with the places' bits from position 0 and the lines' bits from the stride's
+abbrev pub stride_plan : (turns : Bool) → ℕ → ℕ → ℕ → Plan
+stride_plan turns rows columns stride =
+    let lines = side_bits (line_of turns rows columns) * stride in
+    let places = side_bits (place_of turns rows columns) in
+    cond (masked_stride (line_of turns rows columns) stride) (by_masks rows columns (line_of turns lines places) (place_of turns lines places)) (by_stride turns rows columns stride)
 
--- by a column stride: rows and columns the other way about
+-- by a row stride, and by a column stride
+abbrev pub row_strided : ℕ → ℕ → ℕ → Plan
+row_strided = stride_plan false
+
 abbrev pub column_strided : ℕ → ℕ → ℕ → Plan
-column_strided rows columns stride = cond (masked_stride columns stride) (by_masks rows columns (side_bits rows) (side_bits columns * stride)) (by_column_stride rows columns stride)
+column_strided = stride_plan true
 
 -- from a stride: not below the near side, nor above 4,096
-abbrev pub from_row_stride : ℕ → ℕ → ℕ → Result Plan Refusal
-from_row_stride rows columns stride =
+abbrev pub from_stride : (turns : Bool) → ℕ → ℕ → ℕ → Result Plan Refusal
+from_stride turns rows columns stride =
     unless (shaped rows columns) Shape
-    (unless (nat_le columns stride && nat_le stride 4096) Stride
-    (Ok (row_strided rows columns stride)))
+    (unless (nat_le (place_of turns rows columns) stride && nat_le stride 4096) Stride
+    (Ok (stride_plan turns rows columns stride)))
+
+abbrev pub from_row_stride : ℕ → ℕ → ℕ → Result Plan Refusal
+from_row_stride = from_stride false
 
 abbrev pub from_column_stride : ℕ → ℕ → ℕ → Result Plan Refusal
-from_column_stride rows columns stride =
-    unless (shaped rows columns) Shape
-    (unless (nat_le rows stride && nat_le stride 4096) Stride
-    (Ok (column_strided rows columns stride)))
+from_column_stride = from_stride true

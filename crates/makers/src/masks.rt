@@ -13,7 +13,7 @@ use placement::Shape;
 pub(crate) fn is_allowed(shape: Shape) -> bool
     ensures { result ≡ shaped shape.rows shape.columns }
 {
-    1 <= shape.rows && shape.rows <= 4096 && (1 <= shape.columns && shape.columns <= 4096)
+    (1..=4096).contains(&shape.rows) && (1..=4096).contains(&shape.columns)
 }
 
 // The lowest `count` one-bits of the mask, which has that many.

@@ -1,0 +1,28 @@
+// The layouts by strides, one for each axis.
+ghost use Rattle.std.specs.Prelude.{◌≡◌};
+ghost use Rattle.plans.specs.Conditions.{StrideFits};
+ghost use Rattle.plans.specs.Plans.{line_of, place_of, by_stride};
+ghost use Rattle.layouts.specs.Layouts.{layout_plan};
+
+use crate::layout::Layout;
+use by_strides::{Axis, ByColumns, ByRows, Strides};
+use placement::Shape;
+
+// An axis along which strides are one of the layouts.
+pub trait LayoutAxis: Axis {
+    fn layout(shape: Shape, stride: u32) -> Layout
+        requires { StrideFits (place_of Self.turns shape.rows shape.columns) (line_of Self.turns shape.rows shape.columns) stride }
+        ensures { layout_plan result ≡ by_stride Self.turns shape.rows shape.columns stride };
+}
+
+impl LayoutAxis for ByRows {
+    fn layout(shape: Shape, stride: u32) -> Layout {
+        Layout::RowStride(Strides::new(shape, stride))
+    }
+}
+
+impl LayoutAxis for ByColumns {
+    fn layout(shape: Shape, stride: u32) -> Layout {
+        Layout::ColumnStride(Strides::new(shape, stride))
+    }
+}
