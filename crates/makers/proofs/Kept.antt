@@ -1,11 +1,12 @@
 -- The masks that a maker keeps are legal, and put every entry where the given masks put it.
-use Rattle.std.proofs.Common.{◌≡◌, ℕ, ◌+◌, ◌-◌, ◌^◌, ◌<◌, ◌≤◌, true, Ok, sym, ap, ◌∙◌, arith}
+use Rattle.std.proofs.Common.{◌≡◌, ℕ, zero, suc, max, ◌+◌, ◌-◌, ◌*◌, ◌/◌, ◌^◌, ◌<◌, ◌≤◌, true, Ok, sym, ap, pow-suc, arith}
 use lib.Bits.{bit_and}
 use lib.Count.{ones}
 use Rattle.std.proofs.lemmas.Bool.{and_parts, le-leb, leb-true, lt-ltb, eq-eqb}
 use Rattle.fields.specs.Fields.{spread, width}
 use Rattle.fields.proofs.Lowest.{spread_ones, spread_lowest_same}
-use Rattle.fields.proofs.Widths.{wide_width, width_below}
+use Rattle.fields.proofs.Widths.{wide_width, width_below, width_is}
+use Rattle.std.specs.Int.{IsPowerOfTwo}
 use Rattle.plans.specs.Conditions.{Side, MasksFit}
 use Rattle.plans.specs.Plans.{by_masks}
 use Rattle.makers.specs.Makers.{shaped, lowest, from_masks}
@@ -47,13 +48,9 @@ pub record Made (r c y x ky kx : ℕ) : Type 0 where
   pub plan : Ok (by_masks r c ky kx) ≡ from_masks r c y x
   pub places : (i j : ℕ) → i < r → j < c → spread i ky + spread j kx ≡ spread i y + spread j x
 
-pub made : (r c y x w v ky kx : ℕ) → shaped r c ≡ true → y < 2 ^ 32 → x < 2 ^ 32 → w ≡ width (r - 1) → v ≡ width (c - 1) → w ≤ ones y → v ≤ ones x → ky ≡ lowest w y → kx ≡ lowest v x → ky < 2 ^ 24 → kx < 2 ^ 24 → bit_and ky kx ≡ 0 → Made r c y x ky kx
-made r c y x w v ky kx h row_32 column_32 ew ev rb cb ek el a b d =
+pub made : (r c y x ky kx : ℕ) → shaped r c ≡ true → y < 2 ^ 32 → x < 2 ^ 32 → width (r - 1) ≤ ones y → width (c - 1) ≤ ones x → ky ≡ lowest (width (r - 1)) y → kx ≡ lowest (width (c - 1)) x → ky < 2 ^ 24 → kx < 2 ^ 24 → bit_and ky kx ≡ 0 → Made r c y x ky kx
+made r c y x ky kx h row_32 column_32 row_bits column_bits ky_is kx_is a b d =
     let sides = shaped_means r c h in
-    let row_bits : width (r - 1) ≤ ones y = omega arith in
-    let column_bits : width (c - 1) ≤ ones x = omega arith in
-    let ky_is : ky ≡ lowest (width (r - 1)) y = ek ∙ ap (λ n. lowest n y) ew in
-    let kx_is : kx ≡ lowest (width (c - 1)) x = el ∙ ap (λ n. lowest n x) ev in
     let a' : lowest (width (r - 1)) y < 2 ^ 24 = omega arith in
     let b' : lowest (width (c - 1)) x < 2 ^ 24 = omega arith in
     let d' : bit_and (lowest (width (r - 1)) y) (lowest (width (c - 1)) x) ≡ 0 = rw (sym ky_is, sym kx_is) d in
@@ -69,3 +66,12 @@ made r c y x w v ky kx h row_32 column_32 ew ev rb cb ek el a b d =
       );
       places = kept_places r c y x sides.0 sides.1 row_32 column_32 row_bits column_bits;
     })
+
+-- the power of two next to a side has as many binary digits above it as the last entry has
+pub next_power : (n p : ℕ) → Side n → IsPowerOfTwo p → n ≤ p → p / 2 < max 1 n → p ≡ 2 ^ width (n - 1)
+next_power n p h (zero, e) le below = rw e (ap (λ w. 2 ^ w) (sym (width_is (n - 1) 0 (record { below = omega arith; reached = λ l. absurd (omega (arith, l)) }))))
+next_power n p h (suc k, e) le below =
+    let up : 2 ^ suc k ≡ 2 ^ k * 2 = pow-suc 2 k in
+    let one : suc k - 1 ≡ k = omega arith in
+    let half : 2 ^ (suc k - 1) ≡ 2 ^ k = ap (λ w. 2 ^ w) one in
+    rw e (ap (λ w. 2 ^ w) (sym (width_is (n - 1) (suc k) (record { below = omega (arith, h.0); reached = λ l. omega arith }))))

@@ -2,20 +2,12 @@
 ghost use Rattle.std.specs.Prelude.{◌≡◌, ◌+◌, ◌*◌, ◌≤◌};
 ghost use Rattle.layouts.specs.Layouts.{layout_plan};
 ghost use Rattle.plans.specs.Plans.{line_of, place_of, site_of};
-ghost use Rattle.makers.specs.Makers.{planned, Places, side_bits as bits_of, from_stride, from_row_stride, from_column_stride};
+ghost use Rattle.makers.specs.Makers.{planned, Places, from_stride, from_row_stride, from_column_stride};
 
-use crate::masks::is_allowed;
+use crate::masks::{is_allowed, side_bits};
 use layouts::{Axis, ByColumns, ByRows, Layout, LayoutAxis, Masks};
-use masked::{Refusal, width};
+use masked::Refusal;
 use placement::Shape;
-
-// The bits of a side of 1 to 4,096 entries, from position 0 on.
-fn side_bits(entries: u32) -> u32
-    requires { (1 ≤ entries) × (entries ≤ 4096) }
-    ensures { result ≡ bits_of entries }
-{
-    (1 << width(entries - 1)) - 1
-}
 
 // The layout in which each line begins a stride after the line before it: by masks where the stride is a power of two or
 // there is one line, and so no stride to take.

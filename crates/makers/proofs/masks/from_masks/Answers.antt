@@ -1,28 +1,24 @@
-use Rattle.std.proofs.Common.{◌≡◌, true, sym, arith}
-use Rattle.makers.specs.Makers.{shaped}
-use Rattle.makers.proofs.Kept.{shaped_means, side_width, Made, made}
+use Rattle.std.proofs.Common.{sym, arith}
+use Rattle.makers.proofs.Kept.{shaped_means, Made, made}
 use Rattle.makers.proofs.masks.from_masks.Goals as goal
 use Rattle.makers.proofs.masks.from_masks.Goals.{Else-row_mask-column_mask-ne0}
 
 pub lowest-row_mask-requires : goal.lowest-row_mask-requires
 lowest-row_mask-requires c =
-    let h : shaped c.args.shape.rows c.args.shape.columns ≡ true = sym c.if-not-is_allowed.ensures in
-    let w = side_width c.args.shape.rows (shaped_means c.args.shape.rows c.args.shape.columns h).0 in
-    (omega (arith, c.width-row_width.ensures.value), c.if-row_mask-row_width.false)
+    let s = shaped_means c.args.shape.rows c.args.shape.columns (sym c.if-not-is_allowed.ensures) in
+    (s.0, omega (arith, c.width-row_width.ensures.value, c.if-row_mask-row_width.false))
 
 pub lowest-column_mask-requires : goal.lowest-column_mask-requires
 lowest-column_mask-requires c =
-    let h : shaped c.args.shape.rows c.args.shape.columns ≡ true = sym c.if-not-is_allowed.ensures in
-    let w = side_width c.args.shape.columns (shaped_means c.args.shape.rows c.args.shape.columns h).1 in
-    (omega (arith, c.width-column_width.ensures.value), c.if-column_mask-column_width.false)
+    let s = shaped_means c.args.shape.rows c.args.shape.columns (sym c.if-not-is_allowed.ensures) in
+    (s.1, omega (arith, c.width-column_width.ensures.value, c.if-column_mask-column_width.false))
 
 all : (c : Else-row_mask-column_mask-ne0) → Made c.args.shape.rows c.args.shape.columns c.args.row_mask c.args.column_mask c.lowest-row_mask.result c.lowest-column_mask.result
 all c =
-    made c.args.shape.rows c.args.shape.columns c.args.row_mask c.args.column_mask c.width-row_width.result c.width-column_width.result _ _
+    made c.args.shape.rows c.args.shape.columns c.args.row_mask c.args.column_mask c.lowest-row_mask.result c.lowest-column_mask.result
     (sym c.if-not-is_allowed.ensures)
     (omega arith) (omega arith)
-    c.width-row_width.ensures.value c.width-column_width.ensures.value
-    c.if-row_mask-row_width.false c.if-column_mask-column_width.false
+    (omega (arith, c.width-row_width.ensures.value, c.if-row_mask-row_width.false)) (omega (arith, c.width-column_width.ensures.value, c.if-column_mask-column_width.false))
     c.lowest-row_mask.ensures c.lowest-column_mask.ensures
     c.if-row_mask.false c.if-column_mask.false c.if-row_mask-column_mask-ne0.false
 
