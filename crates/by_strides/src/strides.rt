@@ -4,7 +4,6 @@ ghost use Rattle.std.specs.Prelude.{◌≡◌, ⊤};
 ghost use Rattle.plans.specs.Conditions.{StrideFits};
 ghost use Rattle.plans.specs.Plans.{line_of, place_of};
 
-
 use crate::axis::{Axis, ByColumns, ByRows};
 use placement::Shape;
 use std::alloc::AllocError;

@@ -1,5 +1,5 @@
 -- The named orders by masks: there the maker from masks refuses nothing but the shape.
-use Rattle.std.proofs.Common.{◌≡◌, ℕ, ◌-◌, ◌^◌, ◌<◌, ◌≤◌, true, Ok, Result, ◌∙◌, ⊎_elim, arith}
+use Rattle.std.proofs.Common.{◌≡◌, ℕ, ◌-◌, ◌^◌, ◌<◌, ◌≤◌, ◌⊎◌, true, Ok, Result, ap, ◌∙◌, ⊎_elim, inl, inr, arith}
 use lib.Bits.{bit_and, and_comm}
 use lib.Count.{ones}
 use Rattle.std.proofs.lemmas.Bool.{cases_Bool, le-leb, lt-ltb, eq-eqb}
@@ -58,13 +58,25 @@ turned_made r c p h =
     (λ w l. column_low p w h l) (λ w l. row_low p w h l)
     (and_comm (column_full p) (row_full p) ∙ full_unshared p h)
 
+-- the inner width is allowed: up to 12 under H, 0 under the others
+abbrev pub Allowed : ℕ → ℕ → Type 0
+Allowed l p = ((l ≡ H) × (p ≤ 12)) ⊎ ((l ≡ H → ⊥) × (p ≤ 0))
+
+none : (l p : ℕ) → Allowed l p → (l ≡ H → ⊥) → p ≡ 0
+none l p allowed other = ⊎_elim (λ h. absurd (other h.0)) (λ h. omega (arith, h.1)) allowed
+
+up_to_twelve : (l p : ℕ) → Allowed l p → p ≤ 12
+up_to_twelve l p = ⊎_elim (λ h. h.1) (λ h. omega (arith, h.1))
+
 -- what the arms of the maker of named orders answer, from the numbers that its code holds
-module _ (l r c p y x : ℕ) (answer : Result Plan Refusal) (told : answer ≡ from_masks r c y x) where
-  pub order_z : l ≡ Z → p ≡ 0 → y ≡ row_full 0 → x ≡ column_full 0 → answer ≡ named_order l r c p
-  order_z el ep ey ex = rw (told, ey, ex, el, ep) (inner_made r c 0 (omega arith))
+module _ (l r c p y x : ℕ) (answer : Result Plan Refusal) (allowed : Allowed l p) (ey : y ≡ row_full p) (ex : x ≡ column_full p) where
+  pub order_turns : answer ≡ from_masks r c y x → (l ≡ H) ⊎ (l ≡ Z) → answer ≡ named_order l r c p
+  order_turns told (inl el) = let h = up_to_twelve l p allowed in rw (told, ey, ex, el, le-leb p 12 h) (inner_made r c p h)
+  order_turns told (inr el) =
+      let ep = none l p allowed (λ e. omega (arith, e, el)) in
+      rw (told, ey ∙ ap row_full ep, ex ∙ ap column_full ep, el, ep) (inner_made r c 0 (omega arith))
 
-  pub order_n : l ≡ N → p ≡ 0 → y ≡ column_full 0 → x ≡ row_full 0 → answer ≡ named_order l r c p
-  order_n el ep ey ex = rw (told, ey, ex, el, ep) (turned_made r c 0 (omega arith))
-
-  pub order_h : l ≡ H → p ≤ 12 → y ≡ row_full p → x ≡ column_full p → answer ≡ named_order l r c p
-  order_h el h ey ex = rw (told, ey, ex, el, le-leb p 12 h) (inner_made r c p h)
+  pub order_other_way : answer ≡ from_masks r c x y → l ≡ N → answer ≡ named_order l r c p
+  order_other_way told el =
+      let ep = none l p allowed (λ e. omega (arith, e, el)) in
+      rw (told, ey ∙ ap row_full ep, ex ∙ ap column_full ep, el, ep) (turned_made r c 0 (omega arith))

@@ -10,27 +10,23 @@ use makers::{from_column_stride, from_masks, from_row_stride};
 use masked::Refusal;
 use placement::Shape;
 
-// The positions of the columns' bits: a run of `inner` from position 0, and then every other position from twice `inner`.
-fn column_positions(inner: u32) -> u32
+// The positions of the rows' bits and of the columns' bits: for the columns a run of `inner` from position 0, for the rows
+// one after it, and above both every other position for each.
+fn positions(inner: u32) -> (u32, u32)
     requires { inner ≤ 12 }
-    ensures { result ≡ column_full inner }
+    ensures rows { result.0 ≡ row_full inner }
+    ensures columns { result.1 ≡ column_full inner }
 {
-    ((1 << inner) - 1) | (0x5555_5555 << (2 * inner))
-}
-
-// The positions of the rows' bits: a run of `inner` after that of the columns, and then every other position.
-fn row_positions(inner: u32) -> u32
-    requires { inner ≤ 12 }
-    ensures { result ≡ row_full inner }
-{
-    (((1 << inner) - 1) << inner) | (0xaaaa_aaaa << (2 * inner))
+    let run = (1 << inner) - 1;
+    let rows = (run << inner) | (0xaaaa_aaaa << (2 * inner));
+    let columns = run | (0x5555_5555 << (2 * inner));
+    (rows, columns)
 }
 
 fn at_positions(shape: Shape, row_mask: u32, column_mask: u32) -> Result<Layout, Refusal>
     ensures { planned layout_plan result ≡ from_masks shape.rows shape.columns row_mask column_mask }
 {
-    let masks = from_masks(shape, row_mask, column_mask)?;
-    Ok(Layout::Masks(masks))
+    from_masks(shape, row_mask, column_mask).map(Layout::Masks)
 }
 
 // The layout of a named order. R has its rows one after another and C its columns; Z has columns and rows by turns from
@@ -39,12 +35,16 @@ fn at_positions(shape: Shape, row_mask: u32, column_mask: u32) -> Result<Layout,
 pub fn named(letter: char, shape: Shape, inner: u32) -> Result<Layout, Refusal>
     ensures { planned layout_plan result ≡ named_order letter shape.rows shape.columns inner }
 {
+    let widest = if letter == 'H' { 12 } else { 0 };
+    if inner > widest {
+        return Err(Refusal::Order);
+    }
+    let (rows, columns) = positions(inner);
     match letter {
-        'R' if inner == 0 => from_row_stride(shape, shape.columns),
-        'C' if inner == 0 => from_column_stride(shape, shape.rows),
-        'Z' if inner == 0 => at_positions(shape, row_positions(0), column_positions(0)),
-        'N' if inner == 0 => at_positions(shape, column_positions(0), row_positions(0)),
-        'H' if inner <= 12 => at_positions(shape, row_positions(inner), column_positions(inner)),
+        'R' => from_row_stride(shape, shape.columns),
+        'C' => from_column_stride(shape, shape.rows),
+        'Z' | 'H' => at_positions(shape, rows, columns),
+        'N' => at_positions(shape, columns, rows),
         _ => Err(Refusal::Order),
     }
 }

@@ -1,11 +1,21 @@
-use Rattle.orders.proofs.Ordered.{order_z, order_n, order_h}
+use Rattle.std.proofs.Common.{inl, inr, arith}
+use Rattle.orders.proofs.Ordered.{Allowed, order_turns, order_other_way}
 use Rattle.orders.proofs.orders.named.Goals as goal
+use Rattle.orders.proofs.orders.named.Goals.{Else-inner-widest, then-letter-eq72, else-letter-eq72}
+
+allowed : (c : Else-inner-widest) → Allowed c.args.letter c.args.inner
+allowed c =
+    elim c.if-letter-eq72.branch [
+      | then-letter-eq72 w ↦ inl (w.if-letter-eq72.true, omega (arith, w.widest-is, c.if-inner-widest.false))
+      | else-letter-eq72 w ↦ inr (w.if-letter-eq72.false, omega (arith, w.widest-is, c.if-inner-widest.false))
+    ]
 
 pub returns-in-Z : goal.returns-in-Z
-returns-in-Z c = order_z c.args.letter c.args.shape.rows c.args.shape.columns c.args.inner _ _ _ c.at_positions.ensures c.in-Z.is c.if-inner-eq0-3.true c.row_positions.ensures c.column_positions.ensures
+returns-in-Z c =
+    order_turns c.args.letter c.args.shape.rows c.args.shape.columns c.args.inner _ _ _
+    (allowed (goal.at.returns-in-Z c).Else-inner-widest) c.positions-rows.ensures.rows c.positions-rows.ensures.columns c.at_positions.ensures c.in-Z.is
 
 pub returns-in-N : goal.returns-in-N
-returns-in-N c = order_n c.args.letter c.args.shape.rows c.args.shape.columns c.args.inner _ _ _ c.at_positions-in-N.ensures c.in-N.is c.if-inner-eq0-4.true c.column_positions-in-N.ensures c.row_positions-in-N.ensures
-
-pub returns-in-H : goal.returns-in-H
-returns-in-H c = order_h c.args.letter c.args.shape.rows c.args.shape.columns c.args.inner _ _ _ c.at_positions-in-H.ensures c.in-H.is c.if-inner-le12.true c.row_positions-in-H.ensures c.column_positions-in-H.ensures
+returns-in-N c =
+    order_other_way c.args.letter c.args.shape.rows c.args.shape.columns c.args.inner _ _ _
+    (allowed (goal.at.returns-in-N c).Else-inner-widest) c.positions-rows.ensures.rows c.positions-rows.ensures.columns c.at_positions-in-N.ensures c.in-N.is
