@@ -4,6 +4,8 @@ use Rattle.masked.specs.declared.refusal.Refusal.{Refusal}
 use Rattle.masked.specs.declared.refusal.Refusal.TheVariants.{Kind}
 use Rattle.layouts.specs.declared.kind.LayoutKind.{LayoutKind}
 use Rattle.layouts.specs.declared.kind.LayoutKind.TheVariants.{Masks, RowStride, ColumnStride}
+use Rattle.layouts.specs.declared.layout.Layout.{Layout}
+use Rattle.layouts.specs.declared.layout.Layout.TheVariants as chosen
 
 abbrev pub kind_number : LayoutKind → ℕ
 kind_number Masks = 0
@@ -14,3 +16,8 @@ kind_number ColumnStride = 2
 abbrev pub Numbered : ℕ → Result LayoutKind Refusal → Type 0
 Numbered number (Ok kind) = kind_number kind ≡ number
 Numbered number (Err refusal) = (2 < number) × (refusal ≡ Kind)
+
+abbrev pub kind_of : Layout → LayoutKind
+kind_of (chosen.Masks m) = Masks
+kind_of (chosen.RowStride p) = RowStride
+kind_of (chosen.ColumnStride p) = ColumnStride

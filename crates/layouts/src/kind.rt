@@ -1,6 +1,8 @@
 // The kinds of layout, each with the number that stands for it.
-ghost use Rattle.layouts.specs.Kinds.{Numbered};
+ghost use Rattle.std.specs.Prelude.{◌≡◌};
+ghost use Rattle.layouts.specs.Kinds.{Numbered, kind_of};
 
+use crate::layout::Layout;
 use masked::Refusal;
 
 #[derive(Clone, Copy, PartialEq, Eq, Debug)]
@@ -21,6 +23,18 @@ impl TryFrom<u32> for LayoutKind {
             1 => Ok(LayoutKind::RowStride),
             2 => Ok(LayoutKind::ColumnStride),
             _ => Err(Refusal::Kind),
+        }
+    }
+}
+
+impl Layout {
+    pub fn kind(&self) -> LayoutKind
+        ensures { result ≡ kind_of self.now }
+    {
+        match self {
+            Layout::Masks(_) => LayoutKind::Masks,
+            Layout::RowStride(_) => LayoutKind::RowStride,
+            Layout::ColumnStride(_) => LayoutKind::ColumnStride,
         }
     }
 }

@@ -1,4 +1,5 @@
-// A layout as a placement: the one that was chosen.
+// A layout as a placement: the one that was chosen. Each method asks it by a `match` of its own: the three differ in type,
+// and no one value stands for any of them, since a `dyn Placement` may not be handed out.
 ghost use Rattle.layouts.specs.Layouts.{layout_plan};
 ghost use Rattle.plans.specs.Plans.{site_of};
 ghost use Rattle.layouts.specs.Legals.{lawful_layout};

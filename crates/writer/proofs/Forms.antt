@@ -2,6 +2,9 @@
 use Rattle.std.proofs.Common.{◌≡◌, ℕ, ◌+◌, ◌-◌, ◌<◌, ◌≤◌, List, [], ◌∷◌, ◌++◌, length, get_or, take, drop, sym, refl, ap, ◌∙◌, arith, length-append, take-append-drop}
 use Rattle.std.proofs.lemmas.List.{append_assoc, append-nil, take_more, flat_map_more}
 use Rattle.plans.specs.Plans.{Plan, by_masks, by_row_stride, by_column_stride, Legal}
+use Rattle.layouts.specs.Layouts.{layout_plan}
+use Rattle.layouts.specs.Legals.{legal_layout}
+use Rattle.layouts.specs.declared.layout.Layout.{Layout}
 use Rattle.writer.specs.Descriptors.{in_form, bytes_of}
 use Rattle.writer.specs.Numbers.{groups}
 use Rattle.writer.proofs.Numbers.{length_small, length_two, length_four}
@@ -38,3 +41,6 @@ longest (by_row_stride r c s) h =
 longest (by_column_stride r c s) h =
     rw (four (groups 2) _ _ _)
     (omega (arith, length_small 2 (omega arith), length_two (r - 1) (omega (arith, h.near_side, h.stride_limit)), length_two (c - 1) (omega (arith, h.strided_side)), length_two s (omega (arith, h.stride_limit))))
+
+pub longest_layout : (l : Layout) → length (bytes_of (layout_plan l)) ≤ 13
+longest_layout l = longest (layout_plan l) (legal_layout l)

@@ -1,4 +1,3 @@
 pub mod Numbers
 pub mod Writes
 pub mod Forms
-pub mod Told

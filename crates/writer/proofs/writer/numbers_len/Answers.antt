@@ -1,23 +1,17 @@
-use Rattle.std.proofs.Common.{◌≤◌, length, get_or, take, ap, ◌∙◌, arith, length-append, take_all}
-use Rattle.writer.specs.Descriptors.{in_form}
+use Rattle.std.proofs.Common.{rules, ◌≡◌, ◌∙◌, ◌^◌, sym, length, arith}
+use Rattle.std.proofs.lemmas.Iterator.{YieldsList-from_slice}
+use Rattle.std.proofs.lemmas.Iterator.Adapters.{fits_from_length, at_most_from_yields_List}
+use Rattle.std.proofs.lemmas.List.Concat.{length-flat_map}
+use Rattle.std.specs.List.{sum_by}
 use Rattle.writer.specs.Numbers.{groups}
-use Rattle.writer.proofs.Forms.{form_more}
-use Rattle.writer.proofs.Numbers.{length_five}
 use Rattle.writer.proofs.writer.numbers_len.Goals as goal
 
--- a number of 32 bits takes at most five bytes
-short : (c : goal.After-number_len-len) → c.number_len-len.result ≤ 5
-short c = omega (arith, c.number_len-len.ensures, length_five (get_or c.args.numbers.now c.loop-n.n-index 0) (c.type_inv.numbers c.loop-n.n-index).fits)
+pub sum-requires-clause-fits : goal.sum-requires-clause-fits
+sum-requires-clause-fits c =
+    fits_from_length _ _ 5 (2 ^ 64) (at_most_from_yields_List (YieldsList-from_slice c.args.numbers.now cc) c.requires) c.map.ensures.closure (omega arith) (λ x r q k. search rules)
 
-pub overflow_add-len : goal.overflow_add-len
-overflow_add-len c = omega (arith, short c)
-
-pub loop-n-preserved : goal.loop-n-preserved
-loop-n-preserved c =
-    let i = c.loop-n.n-index in
-    let ns = c.args.numbers.now in
-    let long = ap length (form_more ns i c.loop-n-test.true) ∙ length-append (in_form (take i ns)) (groups (get_or ns i 0)) in
-    (omega (arith, c.number_len-len.ensures), omega (arith, short c))
+summed : (c : goal.After-sum) → c.sum.result ≡ sum_by (λ n. length (groups n)) c.args.numbers.now
+summed c = search rules
 
 pub returns : goal.returns
-returns c = c.loop-n.invariant.0 ∙ ap (λ ns. length (in_form ns)) (take_all c.loop-n.n-index c.args.numbers.now c.loop-n-test.false)
+returns c = summed c ∙ sym (length-flat_map groups c.args.numbers.now)
