@@ -1,5 +1,5 @@
 -- A number read byte by byte.
-use Rattle.std.proofs.Common.{◌≡◌, ℕ, suc, ◌+◌, ◌-◌, ◌*◌, ◌%◌, ◌^◌, ◌<◌, ◌≤◌, Bool, true, false, cond, not, ◌&&◌, eqb, ltb, ◌⊎◌, List, length, get_or, drop, Ok, Err, Result, sym, refl, ap, ◌∙◌, ⊎_elim, arith, pow_mono}
+use Rattle.std.proofs.Common.{◌≡◌, ℕ, suc, ◌+◌, ◌-◌, ◌*◌, ◌%◌, ◌^◌, ◌<◌, ◌≤◌, Bool, true, false, cond, not, ◌&&◌, eqb, ltb, ◌⊎◌, List, length, get_or, take, drop, Ok, Err, Result, sym, refl, ap, ◌∙◌, ⊎_elim, min, add-zero, arith, pow_mono, length-take, length-drop, get_or-take, get_or-drop}
 use Rattle.std.proofs.lemmas.Nat.{pow-add, shl_whole, mul-le}
 use Rattle.std.proofs.lemmas.List.{drop_more, drop_all}
 use Rattle.std.proofs.lemmas.Bool.{cond-true, cond-false, lt-ltb, le-ltb, cases_eq, eq-eqb, ne_eqb}
@@ -13,21 +13,21 @@ abbrev pub after : (first g value : ℕ) → Result Number Fault → Result Numb
 after first g value rest =
     and_then rest (λ n. unless (not (ltb 0 g && eqb n.value 0)) Padded first (Ok (number (value + 2 ^ (7 * g) * n.value) n.next)))
 
--- g bytes are read, and the next is at an offset
-pub record SoFar (input : List ℕ) (first g value next : ℕ) : Type 0 where
+-- the first g bytes are read
+pub record SoFar (input : List ℕ) (first g value : ℕ) : Type 0 where
   pub small : value < 2 ^ (7 * g)
-  pub gives : after first g value (number_by (length input) first (4 - g) next (drop next input)) ≡ number_at input first
+  pub gives : after first g value (number_by (length input) first (4 - g) (first + g) (drop (first + g) input)) ≡ number_at input first
 
 -- no byte so far
 after_none : (first : ℕ) (r : Result Number Fault) → after first 0 0 r ≡ r
 after_none first (Ok n) = let e : 0 + 2 ^ (7 * 0) * n.value ≡ n.value = omega arith in ap (λ (v : ℕ). Ok (number v n.next)) e
 after_none first (Err f) = refl
 
-pub so_far_none : (input : List ℕ) (at : ℕ) → SoFar input at 0 0 at
+pub so_far_none : (input : List ℕ) (at : ℕ) → SoFar input at 0 0
 unfolding number_at
 so_far_none input at = record {
   small = omega arith;
-  gives = after_none at (number_by (length input) at 4 at (drop at input));
+  gives = rw (add-zero at) (after_none at (number_by (length input) at 4 at (drop at input)));
 }
 
 -- one byte more
@@ -92,39 +92,56 @@ last_kept first g value b next l low = ⊎_elim
     value_is : value + ((b % 128) * 2 ^ (7 * g)) % 2 ^ 32 ≡ value + 2 ^ (7 * g) * b
     value_is = let s = group_shifted b g l in let same : b % 128 ≡ b = omega arith in rw s (rw same (omega arith))
 
-module _ (input : List ℕ) (first g value next : ℕ) (h : SoFar input first g value next) where
+-- of the first four bytes from an offset on, each stands there in the input
+pub record FourAt (input bytes : List ℕ) (at g : ℕ) : Type 0 where
+  pub few : g < 4
+  pub inside : at + g < length input
+  pub same : get_or bytes g 0 ≡ get_or input (at + g) 0
+
+pub four_at : (input bytes : List ℕ) (at g : ℕ) → bytes ≡ take 4 (drop at input) → g < length bytes → FourAt input bytes at g
+four_at input bytes at g e h =
+    let long : length bytes ≡ min 4 (length input - at) = rw e (simp (length-take, length-drop) refl) in
+    let few : g < 4 = omega arith in
+    record {
+      few = few;
+      inside = omega arith;
+      same = rw e (get_or-take 4 (drop at input) g 0 few ∙ get_or-drop at input g 0);
+    }
+
+module _ (input : List ℕ) (first g value : ℕ) (h : SoFar input first g value) where
   -- what is left, once it is known
-  left_is : (r : Result Number Fault) → number_by (length input) first (4 - g) next (drop next input) ≡ r → after first g value r ≡ number_at input first
+  left_is : (r : Result Number Fault) → number_by (length input) first (4 - g) (first + g) (drop (first + g) input) ≡ r → after first g value r ≡ number_at input first
   left_is r e = ap (after first g value) (sym e) ∙ h.gives
 
   -- at least one byte may follow
-  left_more : g < 4 → number_by (length input) first (4 - g) next (drop next input) ≡ number_by (length input) first (suc (3 - g)) next (drop next input)
-  left_more l = let e : 4 - g ≡ suc (3 - g) = omega arith in ap (λ (k : ℕ). number_by (length input) first k next (drop next input)) e
+  left_more : g < 4 → number_by (length input) first (4 - g) (first + g) (drop (first + g) input) ≡ number_by (length input) first (suc (3 - g)) (first + g) (drop (first + g) input)
+  left_more l = let e : 4 - g ≡ suc (3 - g) = omega arith in ap (λ (k : ℕ). number_by (length input) first k (first + g) (drop (first + g) input)) e
 
   -- the input ends here
-  pub so_far_ended : g < 4 → length input ≤ next → Err (fault Ended (length input)) ≡ number_at input first
-  so_far_ended l e = left_is (Err (fault Ended (length input))) (left_more l ∙ ap (number_by (length input) first (suc (3 - g)) next) (drop_all next input e))
+  pub so_far_ended : g < 4 → length input ≤ (first + g) → Err (fault Ended (length input)) ≡ number_at input first
+  so_far_ended l e = left_is (Err (fault Ended (length input))) (left_more l ∙ ap (number_by (length input) first (suc (3 - g)) (first + g)) (drop_all (first + g) input e))
 
   -- the last byte
-  pub so_far_last : (b : ℕ) → g < 4 → next < length input → b ≡ get_or input next 0 → b < 128 → after first g value (Ok (number b (next + 1))) ≡ number_at input first
+  pub so_far_last : (b : ℕ) → g < 4 → (first + g) < length input → b ≡ get_or input (first + g) 0 → b < 128 → after first g value (Ok (number b ((first + g) + 1))) ≡ number_at input first
   so_far_last b l e is low =
-      let t : ltb (get_or input next 0) 128 ≡ true = lt-ltb (get_or input next 0) 128 (omega arith) in
-      left_is (Ok (number b (next + 1)))
-      (left_more l ∙ number_more input first (3 - g) next e ∙ cond-true (ltb (get_or input next 0) 128) _ _ t ∙ ap (λ (v : ℕ). Ok (number v (next + 1))) (sym is))
+      let t : ltb (get_or input (first + g) 0) 128 ≡ true = lt-ltb (get_or input (first + g) 0) 128 (omega arith) in
+      left_is (Ok (number b ((first + g) + 1)))
+      (left_more l ∙ number_more input first (3 - g) (first + g) e ∙ cond-true (ltb (get_or input (first + g) 0) 128) _ _ t ∙ ap (λ (v : ℕ). Ok (number v ((first + g) + 1))) (sym is))
 
   -- any other
-  pub so_far_more : (b : ℕ) → g < 4 → next < length input → b ≡ get_or input next 0 → 128 ≤ b → SoFar input first (g + 1) (value + ((b % 128) * 2 ^ (7 * g)) % 2 ^ 32) (next + 1)
+  pub so_far_more : (b : ℕ) → g < 4 → (first + g) < length input → b ≡ get_or input (first + g) 0 → 128 ≤ b → SoFar input first (g + 1) (value + ((b % 128) * 2 ^ (7 * g)) % 2 ^ 32)
   so_far_more b l e is high =
-      let t : ltb (get_or input next 0) 128 ≡ false = le-ltb (get_or input next 0) 128 (omega arith) in
-      let rest : Result Number Fault = number_by (length input) first (3 - g) (next + 1) (drop (next + 1) input) in
-      let led = left_is (led_by first b rest) (left_more l ∙ number_more input first (3 - g) next e ∙ cond-false (ltb (get_or input next 0) 128) _ _ t ∙ ap (λ (v : ℕ). led_by first v rest) (sym is)) in
+      let t : ltb (get_or input (first + g) 0) 128 ≡ false = le-ltb (get_or input (first + g) 0) 128 (omega arith) in
+      let rest : Result Number Fault = number_by (length input) first (3 - g) ((first + g) + 1) (drop ((first + g) + 1) input) in
+      let led = left_is (led_by first b rest) (left_more l ∙ number_more input first (3 - g) (first + g) e ∙ cond-false (ltb (get_or input (first + g) 0) 128) _ _ t ∙ ap (λ (v : ℕ). led_by first v rest) (sym is)) in
       let fewer : 4 - (g + 1) ≡ 3 - g = omega arith in
       let shifted = group_shifted b g l in
+      let on : first + (g + 1) ≡ first + g + 1 = omega arith in
       record {
         small = group_fits value b g l h.small;
-        gives = rw (fewer, shifted) (sym (after_led first g value b rest) ∙ led);
+        gives = rw (fewer, shifted, on) (sym (after_led first g value b rest) ∙ led);
       }
 
   -- four bytes, and none the last
   pub so_far_all : 4 ≤ g → Err (fault TooLong first) ≡ number_at input first
-  so_far_all l = let e : 4 - g ≡ 0 = omega arith in left_is (Err (fault TooLong first)) (ap (λ (k : ℕ). number_by (length input) first k next (drop next input)) e)
+  so_far_all l = let e : 4 - g ≡ 0 = omega arith in left_is (Err (fault TooLong first)) (ap (λ (k : ℕ). number_by (length input) first k (first + g) (drop (first + g) input)) e)

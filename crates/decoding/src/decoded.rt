@@ -1,5 +1,5 @@
 // One number of a descriptor, as it is read.
-ghost use Rattle.std.specs.Prelude.{◌≡◌};
+ghost use Rattle.std.specs.Prelude.{◌≡◌, take, drop};
 ghost use Rattle.decoding.specs.Reading.{number_at};
 
 use crate::fault::Fault;
@@ -12,22 +12,23 @@ pub struct Number {
     pub next: usize,
 }
 
+// The bytes from an offset on, four at most. Past the end there are none.
+fn first_four(input: &[u8], at: usize) -> &[u8]
+    ensures { result.now ≡ take 4 (drop at input.now) }
+{
+    let rest = input.get(at..).unwrap_or(&[]);
+    rest.get(..4).unwrap_or(rest)
+}
+
 // The number that begins at an offset of the input. It has at most four bytes, and no byte outside the input is read.
 pub fn number_at(input: &[u8], at: usize) -> Result<Number, Fault>
     ensures { result ≡ number_at input.now at }
 {
+    let bytes = first_four(input, at);
     let mut value = 0u32;
-    let mut next = at;
-    for group in 0..4u32 {
-        if next >= input.len() {
-            return Err(Fault {
-                refusal: Refusal::Ended,
-                place: input.len(),
-            });
-        }
-        let byte = u32::from(input[next]);
+    for (group, &byte) in bytes.iter().enumerate() {
+        let byte = u32::from(byte);
         value += (byte % 128) << (7 * group);
-        next += 1;
         if byte < 128 {
             if byte == 0 && group > 0 {
                 return Err(Fault {
@@ -35,8 +36,17 @@ pub fn number_at(input: &[u8], at: usize) -> Result<Number, Fault>
                     place: at,
                 });
             }
-            return Ok(Number { value, next });
+            return Ok(Number {
+                value,
+                next: at + group + 1,
+            });
         }
+    }
+    if bytes.len() < 4 {
+        return Err(Fault {
+            refusal: Refusal::Ended,
+            place: input.len(),
+        });
     }
     Err(Fault {
         refusal: Refusal::TooLong,
