@@ -1,9 +1,9 @@
 -- How a descriptor is read: number by number, each checked fully before the next is read. The first fault is told, with its place.
-use Rattle.std.specs.Prelude.{ℕ, zero, suc, ◌+◌, ◌-◌, ◌*◌, ◌%◌, ◌^◌, Bool, cond, not, ◌&&◌, ◌||◌, List, [], ◌∷◌, length, drop, Ok, Err, Result, ◌==◌, bit_and, count_ones, nat_le, nat_lt}
+use Rattle.std.specs.Prelude.{ℕ, zero, suc, ◌+◌, ◌-◌, ◌*◌, ◌%◌, ◌^◌, Bool, true, false, cond, not, ◌&&◌, ◌||◌, List, [], ◌∷◌, length, drop, Ok, Err, Result, ◌==◌, bit_and, count_ones, nat_le, nat_lt}
 use Rattle.fields.specs.Fields.{width}
 use Rattle.masked.specs.declared.refusal.Refusal.{Refusal}
 use Rattle.masked.specs.declared.refusal.Refusal.TheVariants.{Ended, TooLong, Padded, Kind, Shape, MaskBits, MaskPosition, MaskOverlap, Stride, Uncanonical, Trailing}
-use Rattle.plans.specs.Plans.{Plan, by_masks, by_row_stride, by_column_stride}
+use Rattle.plans.specs.Plans.{Plan, by_masks, by_stride, line_of, place_of}
 use Rattle.layouts.specs.Layouts.{layout_plan}
 use Rattle.layouts.specs.declared.layout.Layout.{Layout}
 use Rattle.decoding.specs.declared.decoded.Number.{Number}
@@ -81,15 +81,17 @@ masks_at input at rows columns =
     and_then (column_mask_at input y.next columns y.value) (λ x.
     ended input x.next (by_masks rows columns y.value x.value)))
 
+abbrev pub strides_at : (turns : Bool) → List ℕ → ℕ → ℕ → ℕ → Result Plan Fault
+strides_at turns input at rows columns =
+    and_then (stride_at input at (place_of turns rows columns) (line_of turns rows columns)) (λ stride.
+    ended input stride.next (by_stride turns rows columns stride.value))
+
+-- a stride along rows, and along columns
 abbrev pub row_stride_at : List ℕ → ℕ → ℕ → ℕ → Result Plan Fault
-row_stride_at input at rows columns =
-    and_then (stride_at input at columns rows) (λ stride.
-    ended input stride.next (by_row_stride rows columns stride.value))
+row_stride_at = strides_at false
 
 abbrev pub column_stride_at : List ℕ → ℕ → ℕ → ℕ → Result Plan Fault
-column_stride_at input at rows columns =
-    and_then (stride_at input at rows columns) (λ stride.
-    ended input stride.next (by_column_stride rows columns stride.value))
+column_stride_at = strides_at true
 
 abbrev pub body_at : ℕ → List ℕ → ℕ → ℕ → ℕ → Result Plan Fault
 body_at kind input at rows columns =

@@ -1,27 +1,25 @@
 // The reader.
-ghost use Rattle.std.specs.Prelude.{◌≡◌, ◌≤◌};
-ghost use Rattle.plans.specs.Conditions.{Side};
+ghost use Rattle.std.specs.Prelude.{◌≡◌, ◌+◌};
 ghost use Rattle.layouts.specs.Layouts.{layout_plan};
 ghost use Rattle.decoding.specs.Laws.{Bounded, ExchangeLaw};
-ghost use Rattle.decoding.specs.Reading.{planned, kind_at, side_at, mask_at, column_mask_at, stride_at, ended, masks_at, row_stride_at, column_stride_at, accepted};
+ghost use Rattle.decoding.specs.Reading.{planned, kind_at, side_at, mask_at, column_mask_at, stride_at, ended, masks_at, strides_at, accepted};
+ghost use Rattle.reader.specs.Kinds.{numbered};
 
+use crate::extent::Extent;
 use decoding::{Fault, Number, number_at};
-use layouts::{ColumnStride, Layout, Masks, RowStride};
+use layouts::{Axis, ByColumns, ByRows, Layout, LayoutAxis, LayoutKind, Masks};
 use masked::{Refusal, width};
 use placement::Shape;
 
-// The kind: 0, 1 or 2.
-fn kind_at(input: &[u8], at: usize) -> Result<Number, Fault>
-    ensures { result ≡ kind_at input.now at }
+// The kind, and the offset of the byte after it.
+fn kind_at(input: &[u8], at: usize) -> Result<(LayoutKind, usize), Fault>
+    ensures { numbered result ≡ kind_at input.now at }
 {
-    let kind = number_at(input, at)?;
-    if kind.value > 2 {
-        return Err(Fault {
-            refusal: Refusal::Kind,
-            place: at,
-        });
+    let number = number_at(input, at)?;
+    match LayoutKind::try_from(number.value) {
+        Ok(kind) => Ok((kind, number.next)),
+        Err(refusal) => Err(Fault { refusal, place: at }),
     }
-    Ok(kind)
 }
 
 // Rows less one, or columns less one.
@@ -39,12 +37,11 @@ fn side_at(input: &[u8], at: usize) -> Result<Number, Fault>
 }
 
 // The mask of a side with that many entries.
-fn mask_at(input: &[u8], at: usize, entries: u32) -> Result<Number, Fault>
-    requires { 1 ≤ entries }
-    ensures { result ≡ mask_at input.now at entries }
+fn mask_at(input: &[u8], at: usize, side: Extent) -> Result<Number, Fault>
+    ensures { result ≡ mask_at input.now at side.entries }
 {
     let mask = number_at(input, at)?;
-    if mask.value.count_ones() != width(entries - 1) {
+    if mask.value.count_ones() != width(side.entries - 1) {
         return Err(Fault {
             refusal: Refusal::MaskBits,
             place: at,
@@ -60,9 +57,8 @@ fn mask_at(input: &[u8], at: usize, entries: u32) -> Result<Number, Fault>
 }
 
 // The column mask, which shares no bit with the row mask.
-fn column_mask_at(input: &[u8], at: usize, columns: u32, row_mask: u32) -> Result<Number, Fault>
-    requires { 1 ≤ columns }
-    ensures { result ≡ column_mask_at input.now at columns row_mask }
+fn column_mask_at(input: &[u8], at: usize, columns: Extent, row_mask: u32) -> Result<Number, Fault>
+    ensures { result ≡ column_mask_at input.now at columns.entries row_mask }
 {
     let mask = mask_at(input, at, columns)?;
     if row_mask & mask.value != 0 {
@@ -107,61 +103,55 @@ fn whole(input: &[u8], end: usize, layout: Layout) -> Result<Layout, Fault>
     Ok(layout)
 }
 
-fn masks_at(input: &[u8], at: usize, shape: Shape) -> Result<Layout, Fault>
-    requires { (Side shape.rows) × (Side shape.columns) }
-    ensures { planned result ≡ masks_at input.now at shape.rows shape.columns }
+fn shape(rows: Extent, columns: Extent) -> Shape
+    ensures rows { result.rows ≡ rows.entries }
+    ensures columns { result.columns ≡ columns.entries }
 {
-    let row_mask = mask_at(input, at, shape.rows)?;
-    let column_mask = column_mask_at(input, row_mask.next, shape.columns, row_mask.value)?;
+    Shape {
+        rows: rows.entries,
+        columns: columns.entries,
+    }
+}
+
+fn masks_at(input: &[u8], at: usize, rows: Extent, columns: Extent) -> Result<Layout, Fault>
+    ensures { planned result ≡ masks_at input.now at rows.entries columns.entries }
+{
+    let row_mask = mask_at(input, at, rows)?;
+    let column_mask = column_mask_at(input, row_mask.next, columns, row_mask.value)?;
     let masks = Masks {
-        shape,
+        shape: shape(rows, columns),
         row_mask: row_mask.value,
         column_mask: column_mask.value,
     };
     whole(input, column_mask.next, Layout::Masks(masks))
 }
 
-fn row_stride_at(input: &[u8], at: usize, shape: Shape) -> Result<Layout, Fault>
-    requires { (Side shape.rows) × (Side shape.columns) }
-    ensures { planned result ≡ row_stride_at input.now at shape.rows shape.columns }
+fn strides_at<A: LayoutAxis>(input: &[u8], at: usize, rows: Extent, columns: Extent) -> Result<Layout, Fault>
+    ensures { planned result ≡ strides_at A.turns input.now at rows.entries columns.entries }
 {
-    let stride = stride_at(input, at, shape.columns, shape.rows)?;
-    let strides = RowStride {
-        shape,
-        stride: stride.value,
-    };
-    whole(input, stride.next, Layout::RowStride(strides))
-}
-
-fn column_stride_at(input: &[u8], at: usize, shape: Shape) -> Result<Layout, Fault>
-    requires { (Side shape.rows) × (Side shape.columns) }
-    ensures { planned result ≡ column_stride_at input.now at shape.rows shape.columns }
-{
-    let stride = stride_at(input, at, shape.rows, shape.columns)?;
-    let strides = ColumnStride {
-        shape,
-        stride: stride.value,
-    };
-    whole(input, stride.next, Layout::ColumnStride(strides))
+    let (lines, places) = A::turned(rows.entries, columns.entries);
+    let stride = stride_at(input, at, places, lines)?;
+    let layout = A::layout(shape(rows, columns), stride.value);
+    whole(input, stride.next, layout)
 }
 
 // The layout that the input describes. The whole input has to be the descriptor. Each number is checked before the next is
 // read, so that the first fault is told, and no more than thirteen bytes are read of any input.
+#[tactic(auto, using(decoding::proofs::OneForm::exchange_law, decoding::proofs::Bounded::bounded))]
 pub fn read(input: &[u8]) -> Result<Layout, Fault>
     ensures answer { planned result ≡ accepted input.now }
     ensures exchange { ExchangeLaw }
     ensures bounded { Bounded }
 {
-    let kind = kind_at(input, 0)?;
-    let rows = side_at(input, kind.next)?;
+    let (kind, next) = kind_at(input, 0)?;
+    let rows = side_at(input, next)?;
     let columns = side_at(input, rows.next)?;
-    let shape = Shape {
-        rows: rows.value + 1,
-        columns: columns.value + 1,
-    };
-    match kind.value {
-        0 => masks_at(input, columns.next, shape),
-        1 => row_stride_at(input, columns.next, shape),
-        _ => column_stride_at(input, columns.next, shape),
+    let next = columns.next;
+    let rows = Extent { entries: rows.value + 1 };
+    let columns = Extent { entries: columns.value + 1 };
+    match kind {
+        LayoutKind::Masks => masks_at(input, next, rows, columns),
+        LayoutKind::RowStride => strides_at::<ByRows>(input, next, rows, columns),
+        LayoutKind::ColumnStride => strides_at::<ByColumns>(input, next, rows, columns),
     }
 }
