@@ -2,14 +2,25 @@
 ghost use Rattle.std.specs.Prelude.{◌≡◌, ◌+◌};
 ghost use Rattle.layouts.specs.Layouts.{layout_plan};
 ghost use Rattle.decoding.specs.Laws.{Bounded, ExchangeLaw};
-ghost use Rattle.decoding.specs.Reading.{planned, kind_at, side_at, mask_at, column_mask_at, stride_at, ended, masks_at, strides_at, accepted};
-ghost use Rattle.reader.specs.Kinds.{numbered};
+ghost use Rattle.decoding.specs.Reading.{planned, unless, kind_at, side_at, mask_at, column_mask_at, stride_at, ended, masks_at, strides_at, accepted};
+ghost use Rattle.reader.specs.Parts.{numbered, sided};
 
 use crate::extent::Extent;
 use decoding::{Fault, Number, number_at};
 use layouts::{Axis, ByColumns, ByRows, Layout, LayoutAxis, LayoutKind, Masks};
 use masked::{Refusal, width};
 use placement::Shape;
+
+// The refusal at a place, unless the condition holds.
+fn require(holds: bool, refusal: Refusal, place: usize) -> Result<(), Fault>
+    ensures { result ≡ unless holds refusal place (Ok tt) }
+{
+    if holds {
+        Ok(())
+    } else {
+        Err(Fault { refusal, place })
+    }
+}
 
 // The kind, and the offset of the byte after it.
 fn kind_at(input: &[u8], at: usize) -> Result<(LayoutKind, usize), Fault>
@@ -22,18 +33,16 @@ fn kind_at(input: &[u8], at: usize) -> Result<(LayoutKind, usize), Fault>
     }
 }
 
-// Rows less one, or columns less one.
-fn side_at(input: &[u8], at: usize) -> Result<Number, Fault>
-    ensures { result ≡ side_at input.now at }
+// How many rows, or how many columns, and the offset of the byte after the number, which is one less.
+fn side_at(input: &[u8], at: usize) -> Result<(Extent, usize), Fault>
+    ensures { sided result ≡ side_at input.now at }
 {
     let last = number_at(input, at)?;
-    if last.value > 4095 {
-        return Err(Fault {
-            refusal: Refusal::Shape,
-            place: at,
-        });
-    }
-    Ok(last)
+    require(last.value <= 4095, Refusal::Shape, at)?;
+    let side = Extent {
+        entries: last.value + 1,
+    };
+    Ok((side, last.next))
 }
 
 // The mask of a side with that many entries.
@@ -41,18 +50,12 @@ fn mask_at(input: &[u8], at: usize, side: Extent) -> Result<Number, Fault>
     ensures { result ≡ mask_at input.now at side.entries }
 {
     let mask = number_at(input, at)?;
-    if mask.value.count_ones() != width(side.entries - 1) {
-        return Err(Fault {
-            refusal: Refusal::MaskBits,
-            place: at,
-        });
-    }
-    if mask.value >= 1 << 24 {
-        return Err(Fault {
-            refusal: Refusal::MaskPosition,
-            place: at,
-        });
-    }
+    require(
+        mask.value.count_ones() == width(side.entries - 1),
+        Refusal::MaskBits,
+        at,
+    )?;
+    require(mask.value < 1 << 24, Refusal::MaskPosition, at)?;
     Ok(mask)
 }
 
@@ -61,12 +64,7 @@ fn column_mask_at(input: &[u8], at: usize, columns: Extent, row_mask: u32) -> Re
     ensures { result ≡ column_mask_at input.now at columns.entries row_mask }
 {
     let mask = mask_at(input, at, columns)?;
-    if row_mask & mask.value != 0 {
-        return Err(Fault {
-            refusal: Refusal::MaskOverlap,
-            place: at,
-        });
-    }
+    require(row_mask & mask.value == 0, Refusal::MaskOverlap, at)?;
     Ok(mask)
 }
 
@@ -75,18 +73,12 @@ fn stride_at(input: &[u8], at: usize, near: u32, strided: u32) -> Result<Number,
     ensures { result ≡ stride_at input.now at near strided }
 {
     let stride = number_at(input, at)?;
-    if stride.value < near || stride.value > 4095 {
-        return Err(Fault {
-            refusal: Refusal::Stride,
-            place: at,
-        });
-    }
-    if stride.value.is_power_of_two() || strided == 1 {
-        return Err(Fault {
-            refusal: Refusal::Uncanonical,
-            place: at,
-        });
-    }
+    require((near..=4095).contains(&stride.value), Refusal::Stride, at)?;
+    require(
+        !stride.value.is_power_of_two() && strided != 1,
+        Refusal::Uncanonical,
+        at,
+    )?;
     Ok(stride)
 }
 
@@ -94,12 +86,7 @@ fn stride_at(input: &[u8], at: usize, near: u32, strided: u32) -> Result<Number,
 fn whole(input: &[u8], end: usize, layout: Layout) -> Result<Layout, Fault>
     ensures { planned result ≡ ended input.now end (layout_plan layout) }
 {
-    if end < input.len() {
-        return Err(Fault {
-            refusal: Refusal::Trailing,
-            place: end,
-        });
-    }
+    require(end >= input.len(), Refusal::Trailing, end)?;
     Ok(layout)
 }
 
@@ -126,7 +113,12 @@ fn masks_at(input: &[u8], at: usize, rows: Extent, columns: Extent) -> Result<La
     whole(input, column_mask.next, Layout::Masks(masks))
 }
 
-fn strides_at<A: LayoutAxis>(input: &[u8], at: usize, rows: Extent, columns: Extent) -> Result<Layout, Fault>
+fn strides_at<A: LayoutAxis>(
+    input: &[u8],
+    at: usize,
+    rows: Extent,
+    columns: Extent,
+) -> Result<Layout, Fault>
     ensures { planned result ≡ strides_at A.turns input.now at rows.entries columns.entries }
 {
     let (lines, places) = A::turned(rows.entries, columns.entries);
@@ -144,11 +136,8 @@ pub fn read(input: &[u8]) -> Result<Layout, Fault>
     ensures bounded { Bounded }
 {
     let (kind, next) = kind_at(input, 0)?;
-    let rows = side_at(input, next)?;
-    let columns = side_at(input, rows.next)?;
-    let next = columns.next;
-    let rows = Extent { entries: rows.value + 1 };
-    let columns = Extent { entries: columns.value + 1 };
+    let (rows, next) = side_at(input, next)?;
+    let (columns, next) = side_at(input, next)?;
     match kind {
         LayoutKind::Masks => masks_at(input, next, rows, columns),
         LayoutKind::RowStride => strides_at::<ByRows>(input, next, rows, columns),
