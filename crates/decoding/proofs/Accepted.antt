@@ -97,23 +97,3 @@ pub ended_read : (input : List ℕ) (end : ℕ) (plan p : Plan) → ended input 
 ended_read input end plan p e =
     let t = unless_ok (leb (length input) end) Trailing end (Ok plan) p e in
     (ok_same plan p t.1, leb-true (length input) end t.0)
-
--- what the masks of a layout are asked for, as the reader has it
-pub record MasksRead (rows columns y x : ℕ) : Type 0 where
-  pub row_bits : ones y ≡ width (rows - 1)
-  pub column_bits : ones x ≡ width (columns - 1)
-  pub row_positions : y < 2 ^ 24
-  pub column_positions : x < 2 ^ 24
-  pub unshared : bit_and y x ≡ 0
-
-pub masks_read : (input : List ℕ) (at rows columns : ℕ) (y x : Number) → Ok y ≡ mask_at input at rows → Ok x ≡ column_mask_at input y.next columns y.value → MasksRead rows columns y.value x.value
-masks_read input at rows columns y x e d =
-    let row = mask_read input at rows y (sym e) in
-    let column = column_mask_read input y.next columns y.value x (sym d) in
-    record {
-      row_bits = row.bits;
-      column_bits = column.mask_is.bits;
-      row_positions = row.positions;
-      column_positions = column.mask_is.positions;
-      unshared = column.unshared;
-    }

@@ -1,9 +1,9 @@
 -- A number read byte by byte.
-use Rattle.std.proofs.Common.{◌≡◌, ℕ, suc, ◌+◌, ◌-◌, ◌*◌, ◌%◌, ◌^◌, ◌<◌, ◌≤◌, Bool, true, false, cond, not, ◌&&◌, eqb, ltb, ◌⊎◌, List, length, get_or, take, drop, Ok, Err, Result, sym, refl, ap, ◌∙◌, ⊎_elim, min, add-zero, arith, pow_mono, length-take, length-drop, get_or-take, get_or-drop}
+use Rattle.std.proofs.Common.{◌≡◌, ℕ, suc, ◌+◌, ◌-◌, ◌*◌, ◌%◌, ◌^◌, ◌<◌, ◌≤◌, Bool, true, false, cond, not, ◌&&◌, eqb, ltb, ◌⊎◌, List, length, get_or, take, drop, Ok, Err, Result, sym, refl, ap, ◌∙◌, ⊎_elim, min, add-zero, arith, length-take, length-drop, get_or-take, get_or-drop}
 use Rattle.std.proofs.lemmas.Nat.{pow-add, shl_whole, mul-le}
-use Rattle.std.proofs.lemmas.List.{drop_more, drop_all}
+use Rattle.std.proofs.lemmas.List.{drop_more}
 use Rattle.std.proofs.lemmas.Bool.{cond-true, cond-false, lt-ltb, le-ltb, cases_eq, eq-eqb, ne_eqb}
-use Rattle.masked.specs.declared.refusal.Refusal.TheVariants.{Ended, TooLong, Padded}
+use Rattle.masked.specs.declared.refusal.Refusal.TheVariants.{Padded}
 use Rattle.decoding.specs.Reading.{fault, number, and_then, unless, led_by, number_by, number_at}
 use Rattle.decoding.specs.declared.decoded.Number.{Number}
 use Rattle.decoding.specs.declared.fault.Fault.{Fault}
@@ -71,12 +71,6 @@ group_fits value b g h l =
     times : (a p : ℕ) → a ≤ 127 → a * p ≤ 127 * p
     times a p h = mul-le a p 127 p h (omega arith)
 
-pub group_whole : (value b g : ℕ) → g < 4 → value < 2 ^ (7 * g) → value + ((b % 128) * 2 ^ (7 * g)) % 2 ^ 32 < 2 ^ 32
-group_whole value b g h l =
-    let le : 7 * (g + 1) ≤ 28 = omega arith in
-    let most = pow_mono le in
-    omega (arith, group_fits value b g h l)
-
 -- the last byte: a zero byte after others, or the number
 pub last_padded : (first g value b next : ℕ) → 0 < g → b ≡ 0 → Err (fault Padded first) ≡ after first g value (Ok (number b next))
 last_padded first g value b next h z =
@@ -117,10 +111,6 @@ module _ (input : List ℕ) (first g value : ℕ) (h : SoFar input first g value
   left_more : g < 4 → number_by (length input) first (4 - g) (first + g) (drop (first + g) input) ≡ number_by (length input) first (suc (3 - g)) (first + g) (drop (first + g) input)
   left_more l = let e : 4 - g ≡ suc (3 - g) = omega arith in ap (λ (k : ℕ). number_by (length input) first k (first + g) (drop (first + g) input)) e
 
-  -- the input ends here
-  pub so_far_ended : g < 4 → length input ≤ (first + g) → Err (fault Ended (length input)) ≡ number_at input first
-  so_far_ended l e = left_is (Err (fault Ended (length input))) (left_more l ∙ ap (number_by (length input) first (suc (3 - g)) (first + g)) (drop_all (first + g) input e))
-
   -- the last byte
   pub so_far_last : (b : ℕ) → g < 4 → (first + g) < length input → b ≡ get_or input (first + g) 0 → b < 128 → after first g value (Ok (number b ((first + g) + 1))) ≡ number_at input first
   so_far_last b l e is low =
@@ -141,7 +131,3 @@ module _ (input : List ℕ) (first g value : ℕ) (h : SoFar input first g value
         small = group_fits value b g l h.small;
         gives = rw (fewer, shifted, on) (sym (after_led first g value b rest) ∙ led);
       }
-
-  -- four bytes, and none the last
-  pub so_far_all : 4 ≤ g → Err (fault TooLong first) ≡ number_at input first
-  so_far_all l = let e : 4 - g ≡ 0 = omega arith in left_is (Err (fault TooLong first)) (ap (λ (k : ℕ). number_by (length input) first k (first + g) (drop (first + g) input)) e)

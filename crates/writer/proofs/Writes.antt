@@ -51,10 +51,6 @@ next_done {X} first done g was now at long before after =
 abbrev pub Done : {X : Type 0} → List X → List X → ℕ → List X → Type 0
 Done first done at now = (at ≡ length done) × (now ≡ done ++ drop at first)
 
--- At first nothing is done.
-pub done_none : {X : Type 0} (first : List X) → Done first [] 0 first
-done_none first = (refl, refl)
-
 -- One more part is written at that place.
 pub done_more : {X : Type 0} (first done g was now : List X) (at end : ℕ) → Done first done at was → end ≡ at + length g → now ≡ take at was ++ (g ++ drop (at + length g) was) → Done first (done ++ g) end now
 done_more first done g was now at end before long after = (
