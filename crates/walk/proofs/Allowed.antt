@@ -7,7 +7,8 @@ use Rattle.std.specs.List.{AllByRecursion, slice_get}
 use Rattle.walk.specs.declared.sizes.Triple.{Triple}
 use Rattle.walk.specs.declared.sizes.Sizes.{Sizes}
 use Rattle.walk.specs.Walks.{walk, inside, allowed, side, walk_of, reflected, height_of, tiles_of, all_tiles, triple, Walks}
-use Rattle.walk.specs.Steps.{Room, walked}
+use Rattle.walk.specs.Rooms.{Room}
+use Rattle.walk.specs.Steps.{walked, grid_of}
 use Rattle.walk.proofs.Grids.{least_law, tiles_le, length_reflected, reflected_walked}
 use Rattle.walk.proofs.Once.{reflected_walks}
 
@@ -68,8 +69,8 @@ root_room s b =
     record { height = h; row = omega arith; column = omega arith; middle = omega arith }
 
 -- the forward walk of the whole grid is the walk
-pub whole_walk : (s : Sizes) (a b c h : ℕ) → allowed s ≡ true → a ≡ tiles_of s.rows s.order → b ≡ tiles_of s.columns s.order → c ≡ tiles_of s.middle s.order → h ≡ height_of s → walked (record { rows = a; columns = b; middle = c }) h (triple 0 0 0) ≡ walk_of s
-whole_walk s a b c h ok x y z e = rw (x, y, z, e) (sym (walk_of_allowed s ok ∙ reflected_walked s))
+pub whole_walk : (s : Sizes) (h : ℕ) → allowed s ≡ true → h ≡ height_of s → walked (grid_of s) h (triple 0 0 0) ≡ walk_of s
+whole_walk s h ok e = rw e (sym (walk_of_allowed s ok ∙ reflected_walked s))
 
 -- the triple at a place of a list has what each triple of the list has
 pub at_place : (P : Triple → Type 0) (ts : List Triple) (n : ℕ) → AllByRecursion P ts → MatchOption (slice_get ts n) (length ts ≤ n) P

@@ -7,9 +7,10 @@ use Rattle.fields.specs.Fields.{width}
 use Rattle.fields.proofs.Widths.{below_width, width_below}
 use Rattle.walk.specs.declared.sizes.Triple.{Triple}
 use Rattle.walk.specs.declared.sizes.Sizes.{Sizes}
-use Rattle.walk.specs.declared.place.Grid.{Grid}
+use Rattle.walk.specs.declared.sizes.Grid.{Grid}
 use Rattle.walk.specs.Walks.{walk, inside, tiles_of, least_height, height_of, Least, reflected, triple, all_tiles}
-use Rattle.walk.specs.Steps.{within, walked, extent_of, size_of, grid_of}
+use Rattle.walk.specs.Rooms.{extent_of}
+use Rattle.walk.specs.Steps.{within, walked, size_at, grid_of}
 use Rattle.walk.proofs.Totals.{over, over_zero, over_suc, weight, total, sum_by_same}
 
 -- the largest of three sides is at most 2^h exactly where its predecessor has at most h digits
@@ -104,7 +105,7 @@ three false true false = refl
 three false false true = refl
 three false false false = refl
 
-pub length_walked : (g : Grid) (h : ℕ) (t : Triple) → length (walked g h t) ≡ size_of g h t
+pub length_walked : (g : Grid) (h : ℕ) (t : Triple) → length (walked g h t) ≡ size_at g h t
 length_walked g h t =
     length-filter (within g) (walk h t)
     ∙ sum_by_same (λ x. cond (within g x) 1 0) (weight (below g.rows) (below g.columns) (below g.middle)) (λ x. three (ltb x.row g.rows) (ltb x.column g.columns) (ltb x.middle g.middle)) (walk h t)

@@ -2,6 +2,4 @@ pub mod Totals
 pub mod Grids
 pub mod Once
 pub mod Turning
-pub mod Rooms
 pub mod Allowed
-pub mod Leads

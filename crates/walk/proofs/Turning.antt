@@ -1,16 +1,17 @@
 -- The triple at a place of a walk, child by child.
-use Rattle.std.proofs.Common.{◌≡◌, ℕ, zero, suc, ◌+◌, ◌-◌, ◌<◌, ◌≤◌, Bool, true, false, cond, not, ltb, ◌⊎◌, List, [], ◌∷◌, ◌++◌, reverse, length, get_or, drop, Some, None, filter, Option, sym, refl, ap, ◌∙◌, inl, inr, arith}
+use Rattle.std.proofs.Common.{◌≡◌, ℕ, zero, suc, ◌+◌, ◌-◌, ◌%◌, ◌<◌, ◌≤◌, Bool, true, false, cond, not, eqb, ltb, ◌⊎◌, List, [], ◌∷◌, ◌++◌, reverse, length, Some, None, filter, Option, sym, refl, ap, ◌∙◌, inl, inr, arith}
 use mathlib.Core.List.{reverse_aux}
 use Rattle.std.specs.List.{slice_get}
 use Rattle.std.proofs.lemmas.List.Elements.{filter-append}
-use Rattle.std.proofs.lemmas.List.{append_assoc, append-nil, reverse-append, reverse-reverse, length-reverse, at_drop_more}
+use Rattle.std.proofs.lemmas.List.{append_assoc, append-nil, reverse-append, reverse-reverse, length-reverse}
 use Rattle.std.proofs.lemmas.Bool.{cases_lt, lt-ltb, le-ltb}
 use Rattle.walk.specs.declared.sizes.Triple.{Triple}
-use Rattle.walk.specs.declared.place.Grid.{Grid}
+use Rattle.walk.specs.declared.sizes.Grid.{Grid}
+use Rattle.walk.specs.declared.cubes.Cube.{Cube}
 use Rattle.walk.specs.declared.place.Turn.{Turn}
-use Rattle.walk.specs.declared.place.Turn.TheVariants.{Forward, Backward, Past}
+use Rattle.walk.specs.declared.place.Turn.TheVariants.{Forward, Backward}
 use Rattle.walk.specs.Walks.{walk, in_turn, children_of}
-use Rattle.walk.specs.Steps.{within, walked, size_of, turn_of}
+use Rattle.walk.specs.Steps.{within, walked, size_at, size_of, turn_of, StandAt}
 use Rattle.walk.proofs.Grids.{length_walked}
 
 kept_reverse_aux : {X : Type 0} (p : X → Bool) (xs ys : List X) → filter p (reverse_aux xs ys) ≡ reverse_aux (filter p xs) (filter p ys)
@@ -58,69 +59,104 @@ nth_right [] ys n = let e : 0 + n ≡ n = omega arith in ap (slice_get ys) e
 nth_right (x ∷ xs) ys n = let e : suc (length xs) + n ≡ suc (length xs + n) = omega arith in ap (slice_get (x ∷ (xs ++ ys))) e ∙ nth_right xs ys n
 
 -- the triple that a turn leads to
-abbrev pub answer : (Triple → List Triple) → (Triple → List Triple) → Turn → Option Triple
-answer f b (Forward t n) = slice_get (f t) n
-answer f b (Backward t n) = slice_get (b t) n
-answer f b Past = None
+abbrev pub answer : Grid → Option Turn → Option Triple
+answer g None = None
+answer g (Some (Forward c n)) = slice_get (walked g c.height c.at) n
+answer g (Some (Backward c n)) = slice_get (back g c.height c.at) n
 
-module _ (f b : Triple → List Triple) (size : Triple → ℕ) (long_f : (t : Triple) → length (f t) ≡ size t) (long_b : (t : Triple) → length (b t) ≡ size t) where
-  -- one list further
-  further : (xs ys : List Triple) (n m : ℕ) (here there : Turn) → length xs ≡ m → slice_get xs n ≡ answer f b here → slice_get ys (n - m) ≡ answer f b there → slice_get (xs ++ ys) n ≡ answer f b (cond (ltb n m) here there)
-  further xs ys n m here there e h r = by (cases_lt n m)
-    where
-      by : (n < m) ⊎ (m ≤ n) → slice_get (xs ++ ys) n ≡ answer f b (cond (ltb n m) here there)
-      by (inl l) = rw (lt-ltb n m l) (nth_left xs ys n (omega arith) ∙ h)
-      by (inr l) =
-          let split : n ≡ length xs + (n - m) = omega arith in
-          rw (le-ltb n m l) (ap (slice_get (xs ++ ys)) split ∙ nth_right xs ys (n - m) ∙ r)
-
-  pub turn_leads : (ahead : Bool) (ts : List Triple) (n : ℕ) → slice_get (in_turn (cond ahead f b) (cond ahead b f) ts) n ≡ answer f b (turn_of size ahead ts n)
-  turn_leads true [] n = refl
-  turn_leads false [] n = refl
-  turn_leads true (t ∷ ts) n =
-      further (f t) (in_turn b f ts) n (size t) (Forward t n) (turn_of size false ts (n - size t)) (long_f t) refl (turn_leads false ts (n - size t))
-  turn_leads false (t ∷ ts) n =
-      further (b t) (in_turn f b ts) n (size t) (Backward t n) (turn_of size true ts (n - size t)) (long_b t) refl (turn_leads true ts (n - size t))
-
--- a turn leads to one of the cubes
-abbrev pub To : (Triple → Type 0) → Turn → Type 0
-To P (Forward t n) = P t
-To P (Backward t n) = P t
-To P Past = Unit {0}
-
--- one turn of the search: i cubes are passed, and the next has `here` triples
-module _ (size : Triple → ℕ) (ts : List Triple) (i left here : ℕ) (ahead : Bool) (d : Triple) (whole : Turn) (inv : turn_of size ahead (drop i ts) left ≡ whole) (l : i < length ts) (is : here ≡ size (get_or ts i d)) where
-  step : cond (ltb left here) (cond ahead (Forward (get_or ts i d) left) (Backward (get_or ts i d) left)) (turn_of size (not ahead) (drop (i + 1) ts) (left - here)) ≡ whole
-  step = rw is (sym (at_drop_more (λ xs. turn_of size ahead xs left) ts i d l) ∙ inv)
-
-  pub found_forward : left < here → ahead ≡ true → Forward (get_or ts i d) left ≡ whole
-  found_forward a b = rw (lt-ltb left here a, b) at step
-
-  pub found_backward : left < here → ahead ≡ false → Backward (get_or ts i d) left ≡ whole
-  found_backward a b = rw (lt-ltb left here a, b) at step
-
-  pub passed : here ≤ left → turn_of size (not ahead) (drop (i + 1) ts) (left - here) ≡ whole
-  passed a = rw (le-ltb left here a) at step
+-- one list further
+further : (g : Grid) (xs ys : List Triple) (n m : ℕ) (here there : Option Turn) → length xs ≡ m → slice_get xs n ≡ answer g here → slice_get ys (n - m) ≡ answer g there → slice_get (xs ++ ys) n ≡ answer g (cond (ltb n m) here there)
+further g xs ys n m here there e h r = by (cases_lt n m)
+  where
+    by : (n < m) ⊎ (m ≤ n) → slice_get (xs ++ ys) n ≡ answer g (cond (ltb n m) here there)
+    by (inl l) = rw (lt-ltb n m l) (nth_left xs ys n (omega arith) ∙ h)
+    by (inr l) =
+        let split : n ≡ length xs + (n - m) = omega arith in
+        rw (le-ltb n m l) (ap (slice_get (xs ++ ys)) split ∙ nth_right xs ys (n - m) ∙ r)
 
 -- from here on a height is one more than another
-module _ (g : Grid) (h k : ℕ) (up : h ≡ suc k) (t : Triple) (n : ℕ) where
-  long : (c : Triple) → length (walked g k c) ≡ size_of g k c
-  long c = length_walked g k c
+module _ (g : Grid) (h k : ℕ) (up : h ≡ suc k) where
+  module _ (t : Triple) (c : Cube) (at : c.at ≡ t) (low : c.height + 1 ≡ h) where
+    same : c.height ≡ k
+    same = omega arith
 
-  long_back : (c : Triple) → length (back g k c) ≡ size_of g k c
-  long_back c = length-reverse (walked g k c) ∙ length_walked g k c
+    ahead_here : (n : ℕ) → slice_get (walked g k t) n ≡ answer g (Some (Forward c n))
+    ahead_here n = let e = same in rw (e, at)
 
-  pub forward_turn : slice_get (walked g h t) n ≡ answer (walked g k) (back g k) (turn_of (size_of g k) true (children_of t) n)
-  forward_turn =
+    back_here : (n : ℕ) → slice_get (back g k t) n ≡ answer g (Some (Backward c n))
+    back_here n = let e = same in rw (e, at)
+
+    long : length (walked g k t) ≡ size_of g c
+    long = let e = same in length_walked g k t ∙ rw (e, at)
+
+    long_back : length (back g k t) ≡ size_of g c
+    long_back = length-reverse (walked g k t) ∙ long
+
+  turn_leads : (ahead : Bool) (ts : List Triple) (cs : List Cube) (n : ℕ) → StandAt h ts cs → slice_get (in_turn (cond ahead (walked g k) (back g k)) (cond ahead (back g k) (walked g k)) ts) n ≡ answer g (turn_of (size_of g) ahead cs n)
+  turn_leads true [] [] n s = refl
+  turn_leads false [] [] n s = refl
+  turn_leads ahead [] (c ∷ cs) n s = absurd s
+  turn_leads ahead (t ∷ ts) [] n s = absurd s
+  turn_leads true (t ∷ ts) (c ∷ cs) n (at, (low, s)) =
+      further g (walked g k t) (in_turn (back g k) (walked g k) ts) n (size_of g c) (Some (Forward c n)) (turn_of (size_of g) false cs (n - size_of g c))
+      (long t c at low) (ahead_here t c at low n) (turn_leads false ts cs (n - size_of g c) s)
+  turn_leads false (t ∷ ts) (c ∷ cs) n (at, (low, s)) =
+      further g (back g k t) (in_turn (walked g k) (back g k) ts) n (size_of g c) (Some (Backward c n)) (turn_of (size_of g) true cs (n - size_of g c))
+      (long_back t c at low) (back_here t c at low n) (turn_leads true ts cs (n - size_of g c) s)
+
+  pub forward_turn : (t : Triple) (cs : List Cube) (n : ℕ) → StandAt h (children_of t) cs → slice_get (walked g h t) n ≡ answer g (turn_of (size_of g) true cs n)
+  forward_turn t cs n s =
       ap (λ x. slice_get (walked g x t) n) up
       ∙ ap (λ xs. slice_get xs n) (walked_suc g k t)
-      ∙ turn_leads (walked g k) (back g k) (size_of g k) long long_back true (children_of t) n
+      ∙ turn_leads true (children_of t) cs n s
 
-  pub backward_turn : slice_get (back g h t) n ≡ answer (walked g k) (back g k) (turn_of (size_of g k) true (reverse (children_of t)) n)
-  backward_turn =
+  pub backward_turn : (t : Triple) (cs : List Cube) (n : ℕ) → StandAt h (reverse (children_of t)) cs → slice_get (back g h t) n ≡ answer g (turn_of (size_of g) true cs n)
+  backward_turn t cs n s =
       ap (λ x. slice_get (back g x t) n) up
       ∙ ap (λ xs. slice_get xs n) (back_suc g k t)
-      ∙ turn_leads (walked g k) (back g k) (size_of g k) long long_back true (reverse (children_of t)) n
+      ∙ turn_leads true (reverse (children_of t)) cs n s
+
+stand_reverse_aux : (h : ℕ) (ts us : List Triple) (cs ds : List Cube) → StandAt h ts cs → StandAt h us ds → StandAt h (reverse_aux ts us) (reverse_aux cs ds)
+stand_reverse_aux h [] us [] ds s r = r
+stand_reverse_aux h [] us (c ∷ cs) ds s r = absurd s
+stand_reverse_aux h (t ∷ ts) us [] ds s r = absurd s
+stand_reverse_aux h (t ∷ ts) us (c ∷ cs) ds (at, (low, s)) r = stand_reverse_aux h ts (t ∷ us) cs (c ∷ ds) s (at, (low, r))
+
+-- cubes read from the end stand at the triples read from the end
+pub stand_reverse : (h : ℕ) (ts : List Triple) (cs : List Cube) → StandAt h ts cs → StandAt h (reverse ts) (reverse cs)
+stand_reverse h ts cs s = stand_reverse_aux h ts [] cs [] s tt
+
+-- a turn leads one lower
+abbrev pub Lower : ℕ → Option Turn → Type 0
+Lower h None = Unit {0}
+Lower h (Some (Forward c n)) = c.height + 1 ≡ h
+Lower h (Some (Backward c n)) = c.height + 1 ≡ h
+
+lower_one : (h : ℕ) (b ahead : Bool) (c : Cube) (n : ℕ) (there : Option Turn) → c.height + 1 ≡ h → Lower h there → Lower h (cond b (Some (cond ahead (Forward c n) (Backward c n))) there)
+lower_one h true true c n there p q = p
+lower_one h true false c n there p q = p
+lower_one h false ahead c n there p q = q
+
+pub lower : (size : Cube → ℕ) (h : ℕ) (ahead : Bool) (ts : List Triple) (cs : List Cube) (n : ℕ) → StandAt h ts cs → Lower h (turn_of size ahead cs n)
+lower size h ahead ts [] n s = tt
+lower size h ahead [] (c ∷ cs) n s = absurd s
+lower size h ahead (t ∷ ts) (c ∷ cs) n (at, (low, s)) =
+    lower_one h (ltb n (size c)) ahead c n (turn_of size (not ahead) cs (n - size c)) low (lower size h (not ahead) ts cs (n - size c) s)
+
+-- the cubes in even places are walked forward
+abbrev pub even : ℕ → Bool
+even i = eqb (i % 2) 0
+
+-- Forward and backward at a height above 0: the turn that they take leads to their triple, and one lower.
+module _ (g : Grid) (h : ℕ) (up : 0 < h) (t : Triple) (cs : List Cube) (n : ℕ) (o : Option Turn) (is : o ≡ turn_of (size_of g) true cs n) where
+  pub forward_leads : StandAt h (children_of t) cs → (r : Option Triple) → r ≡ answer g o → r ≡ slice_get (walked g h t) n
+  forward_leads s r e = e ∙ ap (answer g) is ∙ sym (forward_turn g h (h - 1) (omega arith) t cs n s)
+
+  pub backward_leads : StandAt h (reverse (children_of t)) cs → (r : Option Triple) → r ≡ answer g o → r ≡ slice_get (back g h t) n
+  backward_leads s r e = e ∙ ap (answer g) is ∙ sym (backward_turn g h (h - 1) (omega arith) t cs n s)
+
+  pub falls : (ts : List Triple) → StandAt h ts cs → Lower h o
+  falls ts s = rw is (lower (size_of g) h true ts cs n s)
 
 -- the walk of one triple
 module _ (t : Triple) (m n : ℕ) where
@@ -136,13 +172,11 @@ module _ (t : Triple) (m n : ℕ) where
   single_back true = refl
   single_back false = refl
 
-pub forward_one : (g : Grid) (h : ℕ) (t : Triple) (n : ℕ) → h ≡ 0 → slice_get (walked g h t) n ≡ cond (ltb n (size_of g 0 t)) (Some t) None
+pub forward_one : (g : Grid) (h : ℕ) (t : Triple) (n : ℕ) → h ≡ 0 → slice_get (walked g h t) n ≡ cond (ltb n (size_at g h t)) (Some t) None
 unfolding walk
-forward_one g h t n z = ap (λ x. slice_get (walked g x t) n) z ∙ single t (size_of g 0 t) n (within g t) (length_walked g 0 t)
+forward_one g h t n z = rw z (single t (size_at g 0 t) n (within g t) (length_walked g 0 t))
 
-pub backward_one : (g : Grid) (h : ℕ) (t : Triple) (n : ℕ) → h ≡ 0 → slice_get (back g h t) n ≡ cond (ltb n (size_of g 0 t)) (Some t) None
+pub backward_one : (g : Grid) (h : ℕ) (t : Triple) (n : ℕ) → h ≡ 0 → slice_get (back g h t) n ≡ cond (ltb n (size_at g h t)) (Some t) None
 unfolding walk
 backward_one g h t n z =
-    ap (λ x. slice_get (back g x t) n) z
-    ∙ ap (λ xs. slice_get xs n) (single_back t 0 n (within g t))
-    ∙ single t (size_of g 0 t) n (within g t) (length_walked g 0 t)
+    rw z (ap (λ xs. slice_get xs n) (single_back t 0 n (within g t)) ∙ single t (size_at g 0 t) n (within g t) (length_walked g 0 t))

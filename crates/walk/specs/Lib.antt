@@ -1,2 +1,3 @@
 pub mod Walks
+pub mod Rooms
 pub mod Steps

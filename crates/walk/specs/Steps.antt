@@ -1,11 +1,13 @@
 -- What the private functions answer on the way to a triple.
-use Rattle.std.specs.Prelude.{ℕ, ◌+◌, ◌-◌, ◌*◌, ◌^◌, ◌≤◌, min, Bool, cond, not, ◌&&◌, List, [], ◌∷◌, filter, nat_lt}
+use Rattle.std.specs.Prelude.{◌≡◌, ℕ, ◌+◌, ◌-◌, ◌*◌, Bool, cond, not, ◌&&◌, List, [], ◌∷◌, filter, nat_lt, Some, None, Option}
 use Rattle.walk.specs.declared.sizes.Triple.{Triple}
 use Rattle.walk.specs.declared.sizes.Sizes.{Sizes}
-use Rattle.walk.specs.declared.place.Grid.{Grid}
+use Rattle.walk.specs.declared.sizes.Grid.{Grid}
+use Rattle.walk.specs.declared.cubes.Cube.{Cube}
 use Rattle.walk.specs.declared.place.Turn.{Turn}
-use Rattle.walk.specs.declared.place.Turn.TheVariants.{Forward, Backward, Past}
+use Rattle.walk.specs.declared.place.Turn.TheVariants.{Forward, Backward}
 use Rattle.walk.specs.Walks.{walk, tiles_of}
+use Rattle.walk.specs.Rooms.{extent_of}
 
 -- how many tiles each side has
 abbrev pub grid_of : Sizes → Grid
@@ -22,23 +24,21 @@ within g t = nat_lt t.row g.rows && (nat_lt t.column g.columns && nat_lt t.middl
 abbrev pub walked : Grid → ℕ → Triple → List Triple
 walked g h t = filter (within g) (walk h t)
 
--- how many of the 2^h numbers from x × 2^h on are below n
-abbrev pub extent_of : ℕ → ℕ → ℕ → ℕ
-extent_of n h x = min (n - x * 2 ^ h) (2 ^ h)
+-- how many triples of the grid the cube of a height at a triple has
+abbrev pub size_at : Grid → ℕ → Triple → ℕ
+size_at g h t = extent_of g.rows h t.row * extent_of g.columns h t.column * extent_of g.middle h t.middle
 
--- how many triples of the grid a cube has
-abbrev pub size_of : Grid → ℕ → Triple → ℕ
-size_of g h t = extent_of g.rows h t.row * extent_of g.columns h t.column * extent_of g.middle h t.middle
+abbrev pub size_of : Grid → Cube → ℕ
+size_of g c = size_at g c.height c.at
 
 -- of cubes that are walked by turns: the one that has the triple at n, which way it is walked, and the place in it
-abbrev pub turn_of : (Triple → ℕ) → Bool → List Triple → ℕ → Turn
-turn_of size ahead [] n = Past
-turn_of size ahead (t ∷ ts) n =
-    cond (nat_lt n (size t)) (cond ahead (Forward t n) (Backward t n)) (turn_of size (not ahead) ts (n - size t))
+abbrev pub turn_of : (Cube → ℕ) → Bool → List Cube → ℕ → Option Turn
+turn_of size ahead [] n = None
+turn_of size ahead (c ∷ cs) n =
+    cond (nat_lt n (size c)) (Some (cond ahead (Forward c n) (Backward c n))) (turn_of size (not ahead) cs (n - size c))
 
--- the cube of height h at t lies among the first 4,096 tiles of each side
-pub record Room (h : ℕ) (t : Triple) : Type 0 where
-  pub height : h ≤ 12
-  pub row : (t.row + 1) * 2 ^ h ≤ 4096
-  pub column : (t.column + 1) * 2 ^ h ≤ 4096
-  pub middle : (t.middle + 1) * 2 ^ h ≤ 4096
+-- the cubes stand at the triples, one lower than height h
+abbrev pub StandAt : ℕ → List Triple → List Cube → Type 0
+StandAt h [] [] = Unit {0}
+StandAt h (t ∷ ts) (c ∷ cs) = (c.at ≡ t) × ((c.height + 1 ≡ h) × StandAt h ts cs)
+StandAt h ts cs = ⊥

@@ -1,6 +1,7 @@
 // The order in which the tiles of a matrix product are visited.
 #![tactic(auto)]
 
+mod cubes;
 mod place;
 mod sizes;
 

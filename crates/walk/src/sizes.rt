@@ -1,6 +1,7 @@
 // The sizes of a product, its tiles, and how many there are.
 ghost use Rattle.std.specs.Prelude.{◌≡◌, ◌≤◌, true, length};
-ghost use Rattle.walk.specs.Walks.{Walks, Least, least_height, height_of, allowed, reflected, walk_of, all_tiles, tiles_of, side as side_of};
+ghost use Rattle.walk.specs.Walks.{Walks, Least, least_height, height_of, allowed, reflected, walk_of, all_tiles, tiles_of};
+ghost use Rattle.walk.specs.Steps.{grid_of};
 
 // A tile of the product: its rows begin at row × 2^t, its columns at column × 2^t and its middle
 // indices at middle × 2^t, where t is the tile order, and each runs over 2^t, cut at the edge.
@@ -20,24 +21,26 @@ pub struct Sizes {
     pub order: u32,
 }
 
+// How many tiles each side of the product has.
+#[derive(Clone, Copy)]
+pub(crate) struct Grid {
+    pub(crate) rows: u32,
+    pub(crate) columns: u32,
+    pub(crate) middle: u32,
+}
+
 const LARGEST_SIDE: u32 = 4096;
 
 const LARGEST_ORDER: u32 = 12;
 
-// Whether a side is from 1 to 4,096.
-fn side_allowed(side: u32) -> bool
-    ensures { result ≡ side_of side }
-{
-    1 <= side && side <= LARGEST_SIDE
-}
-
 // Whether the sides are from 1 to 4,096 and the order from 0 to 12.
+#[tactic(auto, unfolding(crate::specs::Walks::allowed))]
 pub(crate) fn is_allowed(sizes: Sizes) -> bool
     ensures { result ≡ allowed sizes }
 {
-    side_allowed(sizes.rows)
-        && side_allowed(sizes.columns)
-        && side_allowed(sizes.middle)
+    [sizes.rows, sizes.columns, sizes.middle]
+        .iter()
+        .all(|side| (1..=LARGEST_SIDE).contains(side))
         && sizes.order <= LARGEST_ORDER
 }
 
@@ -51,11 +54,25 @@ pub fn height(sizes: Sizes) -> u32
 }
 
 // How many tiles of the order cover a side.
-pub(crate) fn tiles(side: u32, order: u32) -> u32
+fn tiles(side: u32, order: u32) -> u32
     requires { order ≤ 12 }
     ensures { result ≡ tiles_of side order }
 {
     side.div_ceil(1 << order)
+}
+
+impl Sizes {
+    // How many tiles each side has.
+    pub(crate) fn grid(self) -> Grid
+        requires { self.order ≤ 12 }
+        ensures { result ≡ grid_of self }
+    {
+        Grid {
+            rows: tiles(self.rows, self.order),
+            columns: tiles(self.columns, self.order),
+            middle: tiles(self.middle, self.order),
+        }
+    }
 }
 
 // How many triples the walk has: none for sizes that are not allowed.
@@ -67,8 +84,6 @@ pub fn count(sizes: Sizes) -> u64
     if !is_allowed(sizes) {
         return 0;
     }
-    let rows = tiles(sizes.rows, sizes.order) as u64;
-    let columns = tiles(sizes.columns, sizes.order) as u64;
-    let middle = tiles(sizes.middle, sizes.order) as u64;
-    rows * columns * middle
+    let grid = sizes.grid();
+    grid.rows as u64 * grid.columns as u64 * grid.middle as u64
 }

@@ -1,7 +1,7 @@
 use Rattle.walk.proofs.place.+backward_forward.Given as goal
 
 abbrev pub decreases-backward : goal.decreases-backward
-decreases-backward l = l.height
+decreases-backward l = l.cube.height
 
 abbrev pub decreases-forward : goal.decreases-forward
-decreases-forward l = l.height
+decreases-forward l = l.cube.height

@@ -1,7 +1,7 @@
 use Rattle.std.proofs.Common.{None, sym, ap, ◌∙◌, subst}
 use Rattle.std.specs.List.{slice_get}
 use Rattle.walk.specs.Walks.{triple}
-use Rattle.walk.specs.Steps.{Room}
+use Rattle.walk.specs.Rooms.{Room}
 use Rattle.walk.proofs.Allowed.{walk_of_other, walk_of_walks, whole_walk, placed, bounds, root_room}
 use Rattle.walk.proofs.place.triple_at.Goals as goal
 
@@ -14,23 +14,18 @@ returns-then-not-is_allowed c =
       walks = walk_of_walks c.args.sizes;
     }
 
-pub tiles-requires : goal.tiles-requires
-tiles-requires c = (bounds c.args.sizes (sym c.if-not-is_allowed.ensures)).order
+pub grid-requires : goal.grid-requires
+grid-requires c = (bounds c.args.sizes (sym c.if-not-is_allowed.ensures)).order
 
-pub tiles-requires-2 : goal.tiles-requires-2
-tiles-requires-2 c = (bounds c.args.sizes (sym c.if-not-is_allowed.ensures)).order
-
-pub tiles-requires-3 : goal.tiles-requires-3
-tiles-requires-3 c = (bounds c.args.sizes (sym c.if-not-is_allowed.ensures)).order
-
-pub forward-requires : goal.forward-requires
-forward-requires c =
-    subst (λ h. Room h (triple 0 0 0)) (sym c.height.ensures.value) (root_room c.args.sizes (bounds c.args.sizes (sym c.if-not-is_allowed.ensures)))
+pub invariant_of-root : goal.invariant_of-root
+invariant_of-root c = record {
+  room = subst (λ h. Room h (triple 0 0 0)) (sym c.height.ensures.value) (root_room c.args.sizes (bounds c.args.sizes (sym c.if-not-is_allowed.ensures)));
+}
 
 pub returns : goal.returns
 returns c =
-    let all = whole_walk c.args.sizes c.tiles.result c.tiles-2.result c.tiles-3.result c.height.result (sym c.if-not-is_allowed.ensures) c.tiles.ensures c.tiles-2.ensures c.tiles-3.ensures c.height.ensures.value in
-    let is = c.forward.ensures ∙ ap (λ ts. slice_get ts c.args.n) all in
+    let all = whole_walk c.args.sizes c.height.result (sym c.if-not-is_allowed.ensures) c.height.ensures.value in
+    let is = c.forward.ensures ∙ rw c.grid.ensures (ap (λ ts. slice_get ts c.args.n) all) in
     record {
       value = is;
       place = placed c.args.sizes c.args.n c.forward.result is;

@@ -14,14 +14,8 @@ returns-then-not-is_allowed c =
       walks = reflected_walks c.args.sizes;
     }
 
-pub tiles-rows-requires : goal.tiles-rows-requires
-tiles-rows-requires c = (bounds c.args.sizes (sym c.if-not-is_allowed.ensures)).order
-
-pub tiles-columns-requires : goal.tiles-columns-requires
-tiles-columns-requires c = (bounds c.args.sizes (sym c.if-not-is_allowed.ensures)).order
-
-pub tiles-middle-requires : goal.tiles-middle-requires
-tiles-middle-requires c = (bounds c.args.sizes (sym c.if-not-is_allowed.ensures)).order
+pub grid-grid-requires : goal.grid-grid-requires
+grid-grid-requires c = (bounds c.args.sizes (sym c.if-not-is_allowed.ensures)).order
 
 pub overflow_mul-result-2 : goal.overflow_mul-result-2
 overflow_mul-result-2 c =
@@ -30,12 +24,11 @@ overflow_mul-result-2 c =
     let x = tiles_small s.rows s.order b.rows in
     let y = tiles_small s.columns s.order b.columns in
     let z = tiles_small s.middle s.order b.middle in
-    let fits = product_fits c.tiles-rows.result c.tiles-columns.result c.tiles-middle.result (omega (arith, c.tiles-rows.ensures)) (omega (arith, c.tiles-columns.ensures)) (omega (arith, c.tiles-middle.ensures)) in
-    omega arith
+    rw c.grid-grid.ensures (let fits = product_fits _ _ _ x y z in omega arith)
 
 pub returns : goal.returns
 returns c =
-    let product : _ ≡ all_tiles c.args.sizes = rw (c.tiles-rows.ensures, c.tiles-columns.ensures, c.tiles-middle.ensures) in
+    let product : _ ≡ all_tiles c.args.sizes = rw c.grid-grid.ensures in
     record {
       value = product ∙ sym (length_walk_of c.args.sizes (sym c.if-not-is_allowed.ensures));
       product = λ _. product;
