@@ -24,7 +24,7 @@ pub record Room (s : Sizes) (t : Triple) : Type 0 where
   pub middles : s.middle ≤ 4096
 
 -- the tile begins inside, and the sides are at most 4,096
-pub room : {E : Type 0} {s : Sizes} {t : Triple} {left right result : Site} {lefts rights results : List E} → Lawful left → Lawful right → Tables s left right result lefts rights results → Begins s t → Room s t
+pub room : {E : Type 0} {s : Sizes} {t : Triple} {left right result : Site} {results : List E} → Lawful left → Lawful right → Tables s left right result results → Begins s t → Room s t
 unfolding inside
 room {s = s} {t = t} ll lr tables begins =
     let a = and_parts (ltb (t.row * 2 ^ s.order) s.rows) _ begins.begins in

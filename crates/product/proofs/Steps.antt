@@ -2,11 +2,12 @@
 use Rattle.std.proofs.Common.{◌≡◌, ℕ, ◌+◌, ◌≤◌, Bool, true, false, cond, ◌&&◌, ltb, leb, ◌⊎◌, List, length, get_or, set, sym, refl, ap, ◌∙◌, inl, inr, arith}
 use Rattle.std.proofs.lemmas.Bool.{cases_eq}
 use Rattle.std.proofs.lemmas.Bool.Decides.{nat_tests}
+use Rattle.kinds.specs.declared.kind.Kind.{Ghosts as Kinds}
 use Rattle.placement.specs.Sites.{Site, Lawful, Inside}
 use Rattle.walk.specs.declared.sizes.Triple.{Triple}
 use Rattle.walk.specs.declared.sizes.Sizes.{Sizes}
 use Rattle.laws.specs.Products.{Table, added_between, terms, first_of, past_of, tile, tile_table}
-use Rattle.laws.specs.Stores.{entry_of, stored}
+use Rattle.laws.specs.Stores.{entry_of, stored, stored_terms}
 use Rattle.laws.proofs.Adding.{between_more}
 use Rattle.laws.proofs.Stored.{stored_entry, stored_none, stored_same, stored_more, stored_stored}
 
@@ -27,6 +28,10 @@ changed g a b c d old i j = cond (within a b i && within c d j) (g i j (old i j)
 -- the change that a tile makes
 abbrev pub summed : {E : Type 0} → (E → E → E) → (ℕ → ℕ → ℕ → E) → ℕ → ℕ → ℕ → ℕ → E → E
 summed plus f from to i j x = added_between plus x (f i j) from to
+
+-- the same of the terms that two stores hold
+abbrev pub sums : {E : Type 0} → Kinds E → (left right : Site) (lefts rights : List E) → ℕ → ℕ → ℕ → ℕ → E → E
+sums kind left right lefts rights = summed kind.joined (stored_terms kind left right lefts rights)
 
 -- ---- ranges
 

@@ -1,10 +1,11 @@
 // The entries of a table, and the sum of an entry with a tile's terms.
-ghost use Rattle.std.specs.Prelude.{◌≡◌, ◌<◌, ◌≤◌, length};
+ghost use Rattle.std.specs.Prelude.{◌≡◌, ◌<◌, ◌≤◌, ⊤, length};
 ghost use Rattle.laws.specs.Products.{added_between};
 ghost use Rattle.laws.specs.Stores.{entry_of, stored_terms};
 
 use kinds::Kind;
 use placement::Placement;
+use std::alloc::AllocError;
 
 // The cell of an entry inside the table.
 pub(crate) fn cell_at<P: Placement>(placement: &P, row: u32, column: u32) -> usize
@@ -16,21 +17,34 @@ pub(crate) fn cell_at<P: Placement>(placement: &P, row: u32, column: u32) -> usi
     placement.address(row, column).unwrap() as usize
 }
 
-// A table to read from: its placement, and the store that holds its entries.
-#[derive_where(Clone, Copy)]
-pub struct Held<'p, 's, P, E> {
+// A table to read from: its placement, and the store that holds its entries and is no shorter than the span.
+pub struct Held<'p, 's, P: Placement, E> {
     pub placement: &'p P,
     pub store: &'s [E],
+    pub ghost long: { (P.site placement.now).span ≤ length store.now },
 }
 
-// The entry of a table at a row and a column inside.
-fn entry_at<P: Placement, E: Kind + Copy>(table: Held<P, E>, row: u32, column: u32) -> E
-    requires row { row < (P.site table.placement.now).rows }
-    requires column { column < (P.site table.placement.now).columns }
-    requires long { (P.site table.placement.now).span ≤ length table.store.now }
-    ensures { result ≡ entry_of (P.site table.entry.placement.now) E.nought table.entry.store.now row column }
-{
-    table.store[cell_at(table.placement, row, column)]
+impl<P: Placement, E> Clone for Held<'_, '_, P, E> {
+    ghost is_clone = { λ held copy. copy ≡ held };
+
+    ghost is_infallible = { λ _. ⊤ };
+
+    fn clone(&self) -> Result<Self, AllocError> {
+        Ok(*self)
+    }
+}
+
+impl<P: Placement, E> Copy for Held<'_, '_, P, E> {}
+
+impl<P: Placement, E: Kind + Copy> Held<'_, '_, P, E> {
+    // The entry at a row and a column inside.
+    fn entry(self, row: u32, column: u32) -> E
+        requires row { row < (P.site self.placement.now).rows }
+        requires column { column < (P.site self.placement.now).columns }
+        ensures { result ≡ entry_of (P.site self.entry.placement.now) E.nought self.entry.store.now row column }
+    {
+        self.store[cell_at(self.placement, row, column)]
+    }
 }
 
 // What is there plus the next term, in this order.
@@ -56,15 +70,11 @@ pub(crate) fn entry_sum<L: Placement, R: Placement, E: Kind + Copy>(
     requires order { from ≤ to }
     requires left { to ≤ (L.site left.placement.now).columns }
     requires right { to ≤ (R.site right.placement.now).rows }
-    requires lefts { (L.site left.placement.now).span ≤ length left.store.now }
-    requires rights { (R.site right.placement.now).span ≤ length right.store.now }
     ensures { result ≡ added_between E.joined entry (stored_terms E.Kind (L.site left.entry.placement.now) (R.site right.entry.placement.now) left.entry.store.now right.entry.store.now row column) from to }
 {
     let mut sum = entry;
     for middle in from..to {
-        let a = entry_at(left, row, middle);
-        let b = entry_at(right, middle, column);
-        sum = plus_term(sum, a, b);
+        sum = plus_term(sum, left.entry(row, middle), right.entry(middle, column));
     }
     sum
 }
