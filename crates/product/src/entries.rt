@@ -36,9 +36,20 @@ impl<P: Placement, E> Clone for Held<'_, '_, P, E> {
 
 impl<P: Placement, E> Copy for Held<'_, '_, P, E> {}
 
+impl<'p, 's, P: Placement, E> Held<'p, 's, P, E> {
+    // A table over a store that is long enough.
+    pub fn new(placement: &'p P, store: &'s [E]) -> Held<'p, 's, P, E>
+        requires { (P.site placement.now).span ≤ length store.now }
+        ensures placement { result.placement.now ≡ placement.now }
+        ensures store { result.store.now ≡ store.now }
+    {
+        Held { placement, store }
+    }
+}
+
 impl<P: Placement, E: Kind + Copy> Held<'_, '_, P, E> {
     // The entry at a row and a column inside.
-    fn entry(self, row: u32, column: u32) -> E
+    pub fn entry(self, row: u32, column: u32) -> E
         requires row { row < (P.site self.placement.now).rows }
         requires column { column < (P.site self.placement.now).columns }
         ensures { result ≡ entry_of (P.site self.entry.placement.now) E.nought self.entry.store.now row column }

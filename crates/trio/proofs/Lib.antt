@@ -1,3 +1,4 @@
 pub mod Begins
 pub mod Fills
 pub mod Products
+pub mod Laws

@@ -11,7 +11,7 @@ use Rattle.walk.specs.declared.sizes.Sizes.{Sizes}
 use Rattle.walk.specs.Walks.{walk_of, allowed, inside}
 use Rattle.walk.proofs.Allowed.{walk_of_other, bounds, placed}
 use Rattle.laws.specs.Stores.{tile_stored, run_stored}
-use Rattle.product.specs.Tiles.{Tables, Begins}
+use Rattle.product.specs.Tiles.{Begins}
 use Rattle.calls.specs.Moments.{Trio, trio_sizes, remaining_of}
 
 -- a triple of the walk is one of the product's
@@ -27,21 +27,6 @@ begins_at s n t e = at (allowed s) refl
         let z : Some t ≡ None = sym e ∙ ap (λ (ts : List Triple). slice_get ts n) (walk_of_other s a) in
         let y : ◌≡◌ {A = ℕ} 0 1 = cc in
         absurd (omega arith)
-
--- other elements in a store of the same length
-pub tables_kept : {E : Type 0} (s : Sizes) (left right result : Site) (lefts rights results later : List E) → length later ≡ length results
-    → Tables s left right result lefts rights results → Tables s left right result lefts rights later
-tables_kept s left right result lefts rights results later e t = record {
-  left_rows = t.left_rows;
-  left_columns = t.left_columns;
-  right_rows = t.right_rows;
-  right_columns = t.right_columns;
-  result_rows = t.result_rows;
-  result_columns = t.result_columns;
-  left_store = t.left_store;
-  right_store = t.right_store;
-  result_store = omega (arith, t.result_store, e);
-}
 
 module _ {E : Type 0} (kind : Kinds E) (s : Sizes) (left right result : Site) (lefts rights results : List E) where
   pub product_next : (mid later : List E) (from n to : ℕ) (t : Triple) → from ≤ n → n < to → to ≤ max from (length (walk_of s))

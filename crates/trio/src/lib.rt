@@ -3,24 +3,21 @@
 
 mod resting;
 mod running;
-mod stores;
+mod tables;
 
 use masked::Refusal;
+use tables::Tables;
 
 // An idle trio: its entries may be put, got, cleared and copied, and a run may begin.
 #[derive(Drop)]
 pub struct Idle<L, R, S> {
-    left: L,
-    right: R,
-    result: S,
+    tables: Tables<L, R, S>,
 }
 
 // A run: the product of left and right is being added to the result, tile by tile, until it is ended.
 #[derive(Drop)]
 pub struct Run<L, R, S> {
-    left: L,
-    right: R,
-    result: S,
+    tables: Tables<L, R, S>,
     order: u32,
     made: u64,
 }

@@ -1,30 +1,36 @@
 // The calls of an idle trio.
-ghost use Rattle.std.specs.Prelude.{◌≡◌, ◌≤◌, length, if◌then◌else◌, Ok, Err, slice_set};
+ghost use Rattle.std.specs.Prelude.{◌≡◌, ℕ, ◌<◌, ◌≤◌, length, if◌then◌else◌, Ok, Err, slice_set};
 ghost use Rattle.masked.specs.declared.refusal.Refusal.TheVariants.{Outside, Mismatch};
+ghost use Rattle.placement.specs.Sites.{Inside};
 ghost use Rattle.laws.specs.Stores.{entry_of, stored};
 ghost use Rattle.calls.specs.declared.call.Call.TheVariants.{Put, Get, Clear, Copy};
-ghost use Rattle.calls.specs.Moments.{Called, opened, fits, held_in, copy_can};
+ghost use Rattle.calls.specs.Moments.{Called, opened, held_in, copy_can};
 ghost use Rattle.calls.specs.Views.{told, get_answer, shapes_fit, turned};
-ghost use Rattle.trio.specs.Trios.{idle_trio, begin_result};
+ghost use Rattle.trio.specs.Trios.{idle_trio, begin_result, Computes};
 
-use crate::stores::are_long;
+use crate::tables::Tables;
 use crate::{Declined, Idle, Run};
 use calls::Table;
 use kinds::Kind;
 use masked::Refusal;
 use placement::{Placement, Shape};
+use product::Held;
 
 impl<L: Placement, R: Placement, S: Placement> Idle<L, R, S> {
-    // An idle trio over three placements: left is r by q, right q by c and result r by c where a run is to begin.
-    pub fn open(left: L, right: R, res: S) -> Idle<L, R, S>
-        ensures { result ≡ record { left = left; right = right; result = res } }
+    // An idle trio over three placements: left is r by q, right q by c and the target r by c where a run is to begin.
+    pub fn open(left: L, right: R, target: S) -> Idle<L, R, S>
+        ensures { result ≡ record { tables = record { left = left; right = right; result = target } } }
     {
         Idle {
-            left,
-            right,
-            result: res,
+            tables: Tables {
+                left,
+                right,
+                result: target,
+            },
         }
     }
+
+    // The three stores are lent one by one here and below: a struct of them would ask for `&mut` where get needs `&`.
 
     // Writes one entry.
     pub fn put<E: Kind + Copy>(
@@ -40,20 +46,13 @@ impl<L: Placement, R: Placement, S: Placement> Idle<L, R, S> {
         ensures { Called E.Kind (idle_trio L.Placement R.Placement S.Placement self.now) (opened lefts.old rights.old results.old) (Put table row column value) (told result) (opened lefts.new rights.new results.new) }
     {
         let named = Table::try_from(table)?;
-        if !are_long(
-            &self.left,
-            &self.right,
-            &self.result,
-            lefts,
-            rights,
-            results,
-        ) {
+        if !self.tables.are_stored_in(lefts, rights, results) {
             return Err(Refusal::Store);
         }
         match named {
-            Table::Left => put_entry(&self.left, lefts, row, column, value),
-            Table::Right => put_entry(&self.right, rights, row, column, value),
-            Table::Result => put_entry(&self.result, results, row, column, value),
+            Table::Left => put_entry(&self.tables.left, lefts, row, column, value),
+            Table::Right => put_entry(&self.tables.right, rights, row, column, value),
+            Table::Result => put_entry(&self.tables.result, results, row, column, value),
         }
     }
 
@@ -70,20 +69,13 @@ impl<L: Placement, R: Placement, S: Placement> Idle<L, R, S> {
         ensures { Called E.Kind (idle_trio L.Placement R.Placement S.Placement self.now) (opened lefts.now rights.now results.now) (Get table row column) (get_answer result) (opened lefts.now rights.now results.now) }
     {
         let named = Table::try_from(table)?;
-        if !are_long(
-            &self.left,
-            &self.right,
-            &self.result,
-            lefts,
-            rights,
-            results,
-        ) {
+        if !self.tables.are_stored_in(lefts, rights, results) {
             return Err(Refusal::Store);
         }
         match named {
-            Table::Left => get_entry(&self.left, lefts, row, column),
-            Table::Right => get_entry(&self.right, rights, row, column),
-            Table::Result => get_entry(&self.result, results, row, column),
+            Table::Left => get_entry(Held::new(&self.tables.left, lefts), row, column),
+            Table::Right => get_entry(Held::new(&self.tables.right, rights), row, column),
+            Table::Result => get_entry(Held::new(&self.tables.result, results), row, column),
         }
     }
 
@@ -98,20 +90,13 @@ impl<L: Placement, R: Placement, S: Placement> Idle<L, R, S> {
         ensures { Called E.Kind (idle_trio L.Placement R.Placement S.Placement self.now) (opened lefts.old rights.old results.old) (Clear table) (told result) (opened lefts.new rights.new results.new) }
     {
         let named = Table::try_from(table)?;
-        if !are_long(
-            &self.left,
-            &self.right,
-            &self.result,
-            lefts,
-            rights,
-            results,
-        ) {
+        if !self.tables.are_stored_in(lefts, rights, results) {
             return Err(Refusal::Store);
         }
         match named {
-            Table::Left => clear_table(&self.left, lefts),
-            Table::Right => clear_table(&self.right, rights),
-            Table::Result => clear_table(&self.result, results),
+            Table::Left => clear_table(&self.tables.left, lefts),
+            Table::Right => clear_table(&self.tables.right, rights),
+            Table::Result => clear_table(&self.tables.result, results),
         }
         Ok(())
     }
@@ -133,50 +118,42 @@ impl<L: Placement, R: Placement, S: Placement> Idle<L, R, S> {
         if to == from {
             return Err(Refusal::Table);
         }
-        if !are_long(
-            &self.left,
-            &self.right,
-            &self.result,
-            lefts,
-            rights,
-            results,
-        ) {
+        if !self.tables.are_stored_in(lefts, rights, results) {
             return Err(Refusal::Store);
         }
-        match target {
-            Table::Left => match source {
-                Table::Left => unreachable(),
-                Table::Right => copy_table(&self.left, lefts, &self.right, rights, transposed),
-                Table::Result => copy_table(&self.left, lefts, &self.result, results, transposed),
-            },
-            Table::Right => match source {
-                Table::Left => copy_table(&self.right, rights, &self.left, lefts, transposed),
-                Table::Right => unreachable(),
-                Table::Result => copy_table(&self.right, rights, &self.result, results, transposed),
-            },
-            Table::Result => match source {
-                Table::Left => copy_table(&self.result, results, &self.left, lefts, transposed),
-                Table::Right => copy_table(&self.result, results, &self.right, rights, transposed),
-                Table::Result => unreachable(),
-            },
+        let Tables {
+            left,
+            right,
+            result,
+        } = &self.tables;
+        match (target, source) {
+            (Table::Left, Table::Right) => {
+                copy_table(left, lefts, Held::new(right, rights), transposed)
+            }
+            (Table::Left, Table::Result) => {
+                copy_table(left, lefts, Held::new(result, results), transposed)
+            }
+            (Table::Right, Table::Left) => {
+                copy_table(right, rights, Held::new(left, lefts), transposed)
+            }
+            (Table::Right, Table::Result) => {
+                copy_table(right, rights, Held::new(result, results), transposed)
+            }
+            (Table::Result, Table::Left) => {
+                copy_table(result, results, Held::new(left, lefts), transposed)
+            }
+            (Table::Result, Table::Right) => {
+                copy_table(result, results, Held::new(right, rights), transposed)
+            }
+            _ => unreachable!(),
         }
-    }
-
-    // Whether the tables are r by q, q by c and r by c.
-    fn is_joined(&self) -> bool
-        ensures { result ≡ fits (idle_trio L.Placement R.Placement S.Placement self.now) }
-    {
-        let left = self.left.shape();
-        let right = self.right.shape();
-        let result = self.result.shape();
-        left.columns == right.rows && left.rows == result.rows && right.columns == result.columns
     }
 
     // Turns the idle trio into a run of a tile order, or gives it back.
     pub fn begin(self, order: u32) -> Result<Run<L, R, S>, Declined<L, R, S>>
         ensures { result ≡ begin_result (idle_trio L.Placement R.Placement S.Placement self) self order }
     {
-        if !self.is_joined() {
+        if !self.tables.are_joined() {
             return Err(Declined {
                 idle: self,
                 refusal: Refusal::Mismatch,
@@ -189,16 +166,15 @@ impl<L: Placement, R: Placement, S: Placement> Idle<L, R, S> {
             });
         }
         Ok(Run {
-            left: self.left,
-            right: self.right,
-            result: self.result,
+            tables: self.tables,
             order,
             made: 0,
         })
     }
 }
 
-// Writes one entry of a table, or refuses where the row or the column lies outside.
+// Writes one entry of a table, or refuses where the row or the column lies outside. A struct that holds the store to write
+// would need a clause on which store it holds in place of the one on its length, and so at `fill` and below.
 fn put_entry<P: Placement, E: Kind + Copy>(
     placement: &P,
     store: &mut [E],
@@ -217,16 +193,32 @@ fn put_entry<P: Placement, E: Kind + Copy>(
 
 // The entry of a table, or a refusal where the row or the column lies outside.
 fn get_entry<P: Placement, E: Kind + Copy>(
-    placement: &P,
-    store: &[E],
+    table: Held<P, E>,
     row: u32,
     column: u32,
 ) -> Result<E, Refusal>
-    requires { (P.site placement.now).span ≤ length store.now }
-    ensures { result ≡ (if held_in (P.site placement.now) row column then Ok (entry_of (P.site placement.now) E.nought store.now row column) else Err Outside) }
+    ensures { result ≡ (if held_in (P.site table.entry.placement.now) row column then Ok (entry_of (P.site table.entry.placement.now) E.nought table.entry.store.now row column) else Err Outside) }
 {
-    let cell = placement.address(row, column)?;
-    Ok(store[cell as usize])
+    let cell = table.placement.address(row, column)?;
+    Ok(table.store[cell as usize])
+}
+
+// Sets every entry of a table to what a closure answers for its row and column, and no other cell.
+fn fill<P: Placement, E: Kind + Copy, F: Fn(u32, u32) -> E>(
+    placement: &P,
+    store: &mut [E],
+    entry: F,
+)
+    requires long { (P.site placement.now).span ≤ length store.old }
+    requires callable { (i j : ℕ) → Inside (P.site placement.now) i j → F.pre entry i j }
+    ensures { (f : ℕ → ℕ → E) → Computes (P.site placement.now) (F.post entry) f → store.new ≡ stored (P.site placement.now) f store.old }
+{
+    let shape = placement.shape();
+    for row in 0..shape.rows {
+        for column in 0..shape.columns {
+            put_entry(placement, store, row, column, entry(row, column)).unwrap();
+        }
+    }
 }
 
 // Sets all entries of a table to zero.
@@ -234,24 +226,7 @@ fn clear_table<P: Placement, E: Kind + Copy>(placement: &P, store: &mut [E])
     requires { (P.site placement.now).span ≤ length store.old }
     ensures { store.new ≡ stored (P.site placement.now) (λ _ _. E.nought) store.old }
 {
-    let shape = placement.shape();
-    for row in 0..shape.rows {
-        for column in 0..shape.columns {
-            put_entry(placement, store, row, column, E::zero()).unwrap();
-        }
-    }
-}
-
-// Whether all entries of a table can be set from another: the shapes are the same, or where the copy is transposed the
-// same with rows and columns changed about.
-fn are_fitting(shape: Shape, from: Shape, transposed: bool) -> bool
-    ensures { result ≡ shapes_fit transposed shape.rows shape.columns from.rows from.columns }
-{
-    if transposed {
-        shape.rows == from.columns && shape.columns == from.rows
-    } else {
-        shape.rows == from.rows && shape.columns == from.columns
-    }
+    fill(placement, store, |_, _| E::zero());
 }
 
 // The row and the column, changed about where a copy is transposed.
@@ -265,29 +240,38 @@ fn turn(row: u32, column: u32, transposed: bool) -> (u32, u32)
     }
 }
 
+// Whether all entries of a table can be set from another: the shapes are the same, or where the copy is transposed the
+// same with rows and columns changed about.
+fn are_fitting(shape: Shape, from: Shape, transposed: bool) -> bool
+    ensures { result ≡ shapes_fit transposed shape.rows shape.columns from.rows from.columns }
+{
+    (shape.rows, shape.columns) == turn(from.rows, from.columns, transposed)
+}
+
 // Sets all entries of a table from another, plain or transposed, or refuses where the shapes do not fit.
 fn copy_table<P: Placement, Q: Placement, E: Kind + Copy>(
     placement: &P,
     store: &mut [E],
-    source: &Q,
-    entries: &[E],
+    source: Held<Q, E>,
     transposed: bool,
 ) -> Result<(), Refusal>
-    requires long { (P.site placement.now).span ≤ length store.old }
-    requires entries_long { (Q.site source.now).span ≤ length entries.now }
-    ensures answer { result ≡ (if copy_can transposed (P.site placement.now) (Q.site source.now) then Ok tt else Err Mismatch) }
-    ensures cells { store.new ≡ (if copy_can transposed (P.site placement.now) (Q.site source.now) then stored (P.site placement.now) (turned transposed (entry_of (Q.site source.now) E.nought entries.now)) store.old else store.old) }
+    requires { (P.site placement.now).span ≤ length store.old }
+    ensures answer { result ≡ (if copy_can transposed (P.site placement.now) (Q.site source.entry.placement.now) then Ok tt else Err Mismatch) }
+    ensures cells { store.new ≡ (if copy_can transposed (P.site placement.now) (Q.site source.entry.placement.now) then stored (P.site placement.now) (turned transposed (entry_of (Q.site source.entry.placement.now) E.nought source.entry.store.now)) store.old else store.old) }
 {
-    let shape = placement.shape();
-    if !are_fitting(shape, source.shape(), transposed) {
+    if !are_fitting(placement.shape(), source.placement.shape(), transposed) {
         return Err(Refusal::Mismatch);
     }
-    for row in 0..shape.rows {
-        for column in 0..shape.columns {
+    fill(
+        placement,
+        store,
+        |row, column| -> E
+            requires { Inside (Q.site source.placement.now) (if transposed then column else row) (if transposed then row else column) }
+            ensures { result ≡ turned transposed (entry_of (Q.site source.entry.placement.now) E.nought source.entry.store.now) row column }
+        {
             let (i, j) = turn(row, column, transposed);
-            let value = get_entry(source, entries, i, j).unwrap();
-            put_entry(placement, store, row, column, value).unwrap();
-        }
-    }
+            source.entry(i, j)
+        },
+    );
     Ok(())
 }

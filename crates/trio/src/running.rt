@@ -1,14 +1,13 @@
 // The calls of a run.
 ghost use Rattle.std.specs.Prelude.{◌≡◌, ◌-◌, ◌≤◌, max, length, take, drop};
 ghost use Rattle.laws.specs.Stores.{run_stored};
-ghost use Rattle.product.specs.Tiles.{Tables};
+ghost use Rattle.product.specs.Tiles.{Tables as Fit};
 ghost use Rattle.walk.specs.Walks.{walk_of};
 ghost use Rattle.calls.specs.declared.call.Call.TheVariants.{Step};
-ghost use Rattle.calls.specs.Moments.{Called, moment, remaining_of, trio_sizes};
+ghost use Rattle.calls.specs.Moments.{Called, moment, remaining_of};
 ghost use Rattle.calls.specs.Views.{step_answer};
 ghost use Rattle.trio.specs.Trios.{run_trio, run_mode, run_ended};
 
-use crate::stores::are_long;
 use crate::{Idle, Run};
 use kinds::Kind;
 use masked::Refusal;
@@ -17,26 +16,11 @@ use product::{Held, tile_product};
 use walk::{Sizes, triple_at};
 
 impl<L: Placement, R: Placement, S: Placement> Run<L, R, S> {
-    // The sizes of the product.
-    fn sizes(&self) -> Sizes
-        ensures { result ≡ trio_sizes (run_trio L.Placement R.Placement S.Placement self.now) self.now.order }
-    {
-        let left = self.left.shape();
-        let right = self.right.shape();
-        let result = self.result.shape();
-        Sizes {
-            rows: left.rows.min(result.rows),
-            columns: right.columns.min(result.columns),
-            middle: left.columns.min(right.rows),
-            order: self.order,
-        }
-    }
-
     // How many tile products are still to make.
     pub fn remaining(&self) -> u64
         ensures { result ≡ remaining_of (run_trio L.Placement R.Placement S.Placement self.now) self.now.order self.now.made }
     {
-        walk::count(self.sizes()).saturating_sub(self.made)
+        walk::count(self.tables.sizes(self.order)).saturating_sub(self.made)
     }
 
     // Makes the next tile products of the walk, as many as are asked for and are still to make, and answers how many.
@@ -50,32 +34,17 @@ impl<L: Placement, R: Placement, S: Placement> Run<L, R, S> {
         ensures call { Called E.Kind (run_trio L.Placement R.Placement S.Placement self.old) (moment lefts.now rights.now results.old (run_mode self.old)) (Step count) (step_answer result) (moment lefts.now rights.now results.new (run_mode self.new)) }
         ensures tables { run_ended self.new ≡ run_ended self.old }
     {
-        if !are_long(
-            &self.left,
-            &self.right,
-            &self.result,
-            lefts,
-            rights,
-            results,
-        ) {
+        if !self.tables.are_stored_in(lefts, rights, results) {
             return Err(Refusal::Store);
         }
-        let sizes = self.sizes();
+        let sizes = self.tables.sizes(self.order);
         let total = walk::count(sizes);
         let made = self.made;
         let making = count.min(total.saturating_sub(made));
-        let left = Held {
-            placement: &self.left,
-            store: lefts,
-        };
-        let right = Held {
-            placement: &self.right,
-            store: rights,
-        };
         make_products(
-            left,
-            right,
-            &self.result,
+            Held::new(&self.tables.left, lefts),
+            Held::new(&self.tables.right, rights),
+            &self.tables.result,
             results,
             sizes,
             made,
@@ -90,9 +59,7 @@ impl<L: Placement, R: Placement, S: Placement> Run<L, R, S> {
         ensures { result ≡ run_ended self }
     {
         Idle {
-            left: self.left,
-            right: self.right,
-            result: self.result,
+            tables: self.tables,
         }
     }
 }
@@ -101,19 +68,19 @@ impl<L: Placement, R: Placement, S: Placement> Run<L, R, S> {
 fn make_products<L: Placement, R: Placement, S: Placement, E: Kind + Copy>(
     left: Held<L, E>,
     right: Held<R, E>,
-    res: &S,
+    target: &S,
     results: &mut [E],
     sizes: Sizes,
     from: u64,
     to: u64,
 )
-    requires tables { Tables sizes (L.site left.placement.now) (R.site right.placement.now) (S.site res.now) left.store.now right.store.now results.old }
+    requires tables { Fit sizes (L.site left.placement.now) (R.site right.placement.now) (S.site target.now) results.old }
     requires order { from ≤ to }
     requires within { to ≤ max from (length (walk_of sizes)) }
-    ensures { results.new ≡ run_stored E.Kind sizes (L.site left.entry.placement.now) (R.site right.entry.placement.now) (S.site res.now) left.entry.store.now right.entry.store.now results.old (take (to - from) (drop from (walk_of sizes))) }
+    ensures { results.new ≡ run_stored E.Kind sizes (L.site left.entry.placement.now) (R.site right.entry.placement.now) (S.site target.now) left.entry.store.now right.entry.store.now results.old (take (to - from) (drop from (walk_of sizes))) }
 {
     for n in from..to {
         let triple = triple_at(sizes, n).unwrap();
-        tile_product(left, right, res, results, sizes, triple);
+        tile_product(left, right, target, results, sizes, triple);
     }
 }

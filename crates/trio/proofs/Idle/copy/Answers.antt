@@ -3,6 +3,7 @@ use Rattle.std.proofs.lemmas.Result.{err_from_is_err_and}
 use Rattle.calls.specs.declared.table.Table.{Table}
 use Rattle.calls.specs.declared.table.Table.TheVariants.{Left, Right, Result as Product}
 use Rattle.calls.proofs.Outcomes.{copy_to_unnamed, copy_from_unnamed, copy_twice, copy_short, copy_made}
+use Rattle.trio.proofs.Laws.{all_lawful}
 use Rattle.trio.specs.Trios.{idle_trio}
 use Rattle.trio.proofs.Idle.copy.Goals as goal
 
@@ -10,77 +11,83 @@ pub returns-in_err-target : goal.returns-in_err-target
 returns-in_err-target g c =
     let p = err_from_is_err_and c.from_residual.result c.from_residual.ensures.1 in
     rw (p.1, p.2) (copy_to_unnamed g.E.Kind (idle_trio g.L.Placement g.R.Placement g.S.Placement c.args.self.now) c.args.lefts.now c.args.rights.now c.args.results.now
-    c.args.to c.args.from c.args.transposed c.in_err-target.field-0.0 (sym c.numbered.ensures ∙ c.in_err-target.was))
+    c.args.to c.args.from c.args.transposed c.in_err-target.field-0.0 (sym c.try_from.ensures ∙ c.in_err-target.was))
 
 pub returns-in_err-source : goal.returns-in_err-source
 returns-in_err-source g c =
     let p = err_from_is_err_and c.from_residual-in_err-source.result c.from_residual-in_err-source.ensures.1 in
     rw (p.1, p.2) (copy_from_unnamed g.E.Kind (idle_trio g.L.Placement g.R.Placement g.S.Placement c.args.self.now) c.args.lefts.now c.args.rights.now c.args.results.now
-    c.args.to c.args.from c.args.transposed c.in_ok-target.target (sym c.numbered.ensures ∙ c.in_ok-target.was)
-    c.in_err-source.field-0.0 (sym c.numbered-2.ensures ∙ c.in_err-source.was))
+    c.args.to c.args.from c.args.transposed c.in_ok-target.target (sym c.try_from.ensures ∙ c.in_ok-target.was)
+    c.in_err-source.field-0.0 (sym c.try_from-2.ensures ∙ c.in_err-source.was))
 
 pub returns-then-to-from : goal.returns-then-to-from
 returns-then-to-from g c =
     copy_twice g.E.Kind (idle_trio g.L.Placement g.R.Placement g.S.Placement c.args.self.now) c.args.lefts.now c.args.rights.now c.args.results.now
-    c.args.to c.args.from c.args.transposed c.in_ok-target.target (sym c.numbered.ensures ∙ c.in_ok-target.was)
-    c.in_ok-source.source (sym c.numbered-2.ensures ∙ c.in_ok-source.was) c.if-to-from.true
+    c.args.to c.args.from c.args.transposed c.in_ok-target.target (sym c.try_from.ensures ∙ c.in_ok-target.was)
+    c.in_ok-source.source (sym c.try_from-2.ensures ∙ c.in_ok-source.was) c.if-to-from.true
 
-pub returns-then-not-are_long : goal.returns-then-not-are_long
-returns-then-not-are_long g c =
+pub returns-then-not-are_stored_in : goal.returns-then-not-are_stored_in
+returns-then-not-are_stored_in g c =
     copy_short g.E.Kind (idle_trio g.L.Placement g.R.Placement g.S.Placement c.args.self.now) c.args.lefts.now c.args.rights.now c.args.results.now
-    c.args.to c.args.from c.args.transposed c.in_ok-target.target (sym c.numbered.ensures ∙ c.in_ok-target.was)
-    c.in_ok-source.source (sym c.numbered-2.ensures ∙ c.in_ok-source.was) c.if-to-from.false (sym c.are_long.ensures ∙ c.if-not-are_long.true)
+    c.args.to c.args.from c.args.transposed c.in_ok-target.target (sym c.try_from.ensures ∙ c.in_ok-target.was)
+    c.in_ok-source.source (sym c.try_from-2.ensures ∙ c.in_ok-source.was) c.if-to-from.false (sym c.are_stored_in.ensures ∙ c.if-not-are_stored_in.true)
 
-pub returns-in-Right-source : goal.returns-in-Right-source
-returns-in-Right-source g c =
+pub returns-in-Left-Right : goal.returns-in-Left-Right
+returns-in-Left-Right g c =
     copy_made g.E.Kind (idle_trio g.L.Placement g.R.Placement g.S.Placement c.args.self.now) c.args.lefts.now c.args.rights.now c.args.results.now
     c.args.to c.args.from c.args.transposed
-    Left (sym c.numbered.ensures ∙ c.in_ok-target.was ∙ ap (λ (x : Table). Ok x) c.in-Left.is)
-    Right (sym c.numbered-2.ensures ∙ c.in_ok-source.was ∙ ap (λ (x : Table). Ok x) c.in-Right-source.is) c.if-to-from.false
-    (record { left = g.met.L.Placement.lawful c.args.self.now.left; right = g.met.R.Placement.lawful c.args.self.now.right; result = g.met.S.Placement.lawful c.args.self.now.result })
-    (sym c.are_long.ensures ∙ c.if-not-are_long.false) c.copy_table.result c.copy_table.new.store c.copy_table.ensures.answer c.copy_table.ensures.cells
+    Left (sym c.try_from.ensures ∙ c.in_ok-target.was ∙ ap (λ (x : Table). Ok x) c.in-Left-Right.is-0)
+    Right (sym c.try_from-2.ensures ∙ c.in_ok-source.was ∙ ap (λ (x : Table). Ok x) c.in-Left-Right.is-1) c.if-to-from.false
+    (all_lawful g.L.Placement g.R.Placement g.S.Placement g.met.L.Placement.lawful g.met.R.Placement.lawful g.met.S.Placement.lawful c.args.self.now.tables)
+    (sym c.are_stored_in.ensures ∙ c.if-not-are_stored_in.false) c.copy_table.result c.copy_table.new.store
+    (rw (c.new.ensures.placement) at c.copy_table.ensures.answer) (rw (c.new.ensures.placement, c.new.ensures.store) at c.copy_table.ensures.cells)
 
-pub returns-in-Result-source : goal.returns-in-Result-source
-returns-in-Result-source g c =
+pub returns-in-Left-Result : goal.returns-in-Left-Result
+returns-in-Left-Result g c =
     copy_made g.E.Kind (idle_trio g.L.Placement g.R.Placement g.S.Placement c.args.self.now) c.args.lefts.now c.args.rights.now c.args.results.now
     c.args.to c.args.from c.args.transposed
-    Left (sym c.numbered.ensures ∙ c.in_ok-target.was ∙ ap (λ (x : Table). Ok x) c.in-Left.is)
-    Product (sym c.numbered-2.ensures ∙ c.in_ok-source.was ∙ ap (λ (x : Table). Ok x) c.in-Result-source.is) c.if-to-from.false
-    (record { left = g.met.L.Placement.lawful c.args.self.now.left; right = g.met.R.Placement.lawful c.args.self.now.right; result = g.met.S.Placement.lawful c.args.self.now.result })
-    (sym c.are_long.ensures ∙ c.if-not-are_long.false) c.copy_table-in-Result-source.result c.copy_table-in-Result-source.new.store c.copy_table-in-Result-source.ensures.answer c.copy_table-in-Result-source.ensures.cells
+    Left (sym c.try_from.ensures ∙ c.in_ok-target.was ∙ ap (λ (x : Table). Ok x) c.in-Left-Result.is-0)
+    Product (sym c.try_from-2.ensures ∙ c.in_ok-source.was ∙ ap (λ (x : Table). Ok x) c.in-Left-Result.is-1) c.if-to-from.false
+    (all_lawful g.L.Placement g.R.Placement g.S.Placement g.met.L.Placement.lawful g.met.R.Placement.lawful g.met.S.Placement.lawful c.args.self.now.tables)
+    (sym c.are_stored_in.ensures ∙ c.if-not-are_stored_in.false) c.copy_table-in-Left-Result.result c.copy_table-in-Left-Result.new.store
+    (rw (c.new-in-Left-Result.ensures.placement) at c.copy_table-in-Left-Result.ensures.answer) (rw (c.new-in-Left-Result.ensures.placement, c.new-in-Left-Result.ensures.store) at c.copy_table-in-Left-Result.ensures.cells)
 
-pub returns-in-Left-source-2 : goal.returns-in-Left-source-2
-returns-in-Left-source-2 g c =
+pub returns-in-Right-Left : goal.returns-in-Right-Left
+returns-in-Right-Left g c =
     copy_made g.E.Kind (idle_trio g.L.Placement g.R.Placement g.S.Placement c.args.self.now) c.args.lefts.now c.args.rights.now c.args.results.now
     c.args.to c.args.from c.args.transposed
-    Right (sym c.numbered.ensures ∙ c.in_ok-target.was ∙ ap (λ (x : Table). Ok x) c.in-Right.is)
-    Left (sym c.numbered-2.ensures ∙ c.in_ok-source.was ∙ ap (λ (x : Table). Ok x) c.in-Left-source-2.is) c.if-to-from.false
-    (record { left = g.met.L.Placement.lawful c.args.self.now.left; right = g.met.R.Placement.lawful c.args.self.now.right; result = g.met.S.Placement.lawful c.args.self.now.result })
-    (sym c.are_long.ensures ∙ c.if-not-are_long.false) c.copy_table-in-Left-source-2.result c.copy_table-in-Left-source-2.new.store c.copy_table-in-Left-source-2.ensures.answer c.copy_table-in-Left-source-2.ensures.cells
+    Right (sym c.try_from.ensures ∙ c.in_ok-target.was ∙ ap (λ (x : Table). Ok x) c.in-Right-Left.is-0)
+    Left (sym c.try_from-2.ensures ∙ c.in_ok-source.was ∙ ap (λ (x : Table). Ok x) c.in-Right-Left.is-1) c.if-to-from.false
+    (all_lawful g.L.Placement g.R.Placement g.S.Placement g.met.L.Placement.lawful g.met.R.Placement.lawful g.met.S.Placement.lawful c.args.self.now.tables)
+    (sym c.are_stored_in.ensures ∙ c.if-not-are_stored_in.false) c.copy_table-in-Right-Left.result c.copy_table-in-Right-Left.new.store
+    (rw (c.new-in-Right-Left.ensures.placement) at c.copy_table-in-Right-Left.ensures.answer) (rw (c.new-in-Right-Left.ensures.placement, c.new-in-Right-Left.ensures.store) at c.copy_table-in-Right-Left.ensures.cells)
 
-pub returns-in-Result-source-2 : goal.returns-in-Result-source-2
-returns-in-Result-source-2 g c =
+pub returns-in-Right-Result : goal.returns-in-Right-Result
+returns-in-Right-Result g c =
     copy_made g.E.Kind (idle_trio g.L.Placement g.R.Placement g.S.Placement c.args.self.now) c.args.lefts.now c.args.rights.now c.args.results.now
     c.args.to c.args.from c.args.transposed
-    Right (sym c.numbered.ensures ∙ c.in_ok-target.was ∙ ap (λ (x : Table). Ok x) c.in-Right.is)
-    Product (sym c.numbered-2.ensures ∙ c.in_ok-source.was ∙ ap (λ (x : Table). Ok x) c.in-Result-source-2.is) c.if-to-from.false
-    (record { left = g.met.L.Placement.lawful c.args.self.now.left; right = g.met.R.Placement.lawful c.args.self.now.right; result = g.met.S.Placement.lawful c.args.self.now.result })
-    (sym c.are_long.ensures ∙ c.if-not-are_long.false) c.copy_table-in-Result-source-2.result c.copy_table-in-Result-source-2.new.store c.copy_table-in-Result-source-2.ensures.answer c.copy_table-in-Result-source-2.ensures.cells
+    Right (sym c.try_from.ensures ∙ c.in_ok-target.was ∙ ap (λ (x : Table). Ok x) c.in-Right-Result.is-0)
+    Product (sym c.try_from-2.ensures ∙ c.in_ok-source.was ∙ ap (λ (x : Table). Ok x) c.in-Right-Result.is-1) c.if-to-from.false
+    (all_lawful g.L.Placement g.R.Placement g.S.Placement g.met.L.Placement.lawful g.met.R.Placement.lawful g.met.S.Placement.lawful c.args.self.now.tables)
+    (sym c.are_stored_in.ensures ∙ c.if-not-are_stored_in.false) c.copy_table-in-Right-Result.result c.copy_table-in-Right-Result.new.store
+    (rw (c.new-in-Right-Result.ensures.placement) at c.copy_table-in-Right-Result.ensures.answer) (rw (c.new-in-Right-Result.ensures.placement, c.new-in-Right-Result.ensures.store) at c.copy_table-in-Right-Result.ensures.cells)
 
-pub returns-in-Left-source-3 : goal.returns-in-Left-source-3
-returns-in-Left-source-3 g c =
+pub returns-in-Result-Left : goal.returns-in-Result-Left
+returns-in-Result-Left g c =
     copy_made g.E.Kind (idle_trio g.L.Placement g.R.Placement g.S.Placement c.args.self.now) c.args.lefts.now c.args.rights.now c.args.results.now
     c.args.to c.args.from c.args.transposed
-    Product (sym c.numbered.ensures ∙ c.in_ok-target.was ∙ ap (λ (x : Table). Ok x) c.in-Result.is)
-    Left (sym c.numbered-2.ensures ∙ c.in_ok-source.was ∙ ap (λ (x : Table). Ok x) c.in-Left-source-3.is) c.if-to-from.false
-    (record { left = g.met.L.Placement.lawful c.args.self.now.left; right = g.met.R.Placement.lawful c.args.self.now.right; result = g.met.S.Placement.lawful c.args.self.now.result })
-    (sym c.are_long.ensures ∙ c.if-not-are_long.false) c.copy_table-in-Left-source-3.result c.copy_table-in-Left-source-3.new.store c.copy_table-in-Left-source-3.ensures.answer c.copy_table-in-Left-source-3.ensures.cells
+    Product (sym c.try_from.ensures ∙ c.in_ok-target.was ∙ ap (λ (x : Table). Ok x) c.in-Result-Left.is-0)
+    Left (sym c.try_from-2.ensures ∙ c.in_ok-source.was ∙ ap (λ (x : Table). Ok x) c.in-Result-Left.is-1) c.if-to-from.false
+    (all_lawful g.L.Placement g.R.Placement g.S.Placement g.met.L.Placement.lawful g.met.R.Placement.lawful g.met.S.Placement.lawful c.args.self.now.tables)
+    (sym c.are_stored_in.ensures ∙ c.if-not-are_stored_in.false) c.copy_table-in-Result-Left.result c.copy_table-in-Result-Left.new.store
+    (rw (c.new-in-Result-Left.ensures.placement) at c.copy_table-in-Result-Left.ensures.answer) (rw (c.new-in-Result-Left.ensures.placement, c.new-in-Result-Left.ensures.store) at c.copy_table-in-Result-Left.ensures.cells)
 
-pub returns-in-Right-source-3 : goal.returns-in-Right-source-3
-returns-in-Right-source-3 g c =
+pub returns-in-Result-Right : goal.returns-in-Result-Right
+returns-in-Result-Right g c =
     copy_made g.E.Kind (idle_trio g.L.Placement g.R.Placement g.S.Placement c.args.self.now) c.args.lefts.now c.args.rights.now c.args.results.now
     c.args.to c.args.from c.args.transposed
-    Product (sym c.numbered.ensures ∙ c.in_ok-target.was ∙ ap (λ (x : Table). Ok x) c.in-Result.is)
-    Right (sym c.numbered-2.ensures ∙ c.in_ok-source.was ∙ ap (λ (x : Table). Ok x) c.in-Right-source-3.is) c.if-to-from.false
-    (record { left = g.met.L.Placement.lawful c.args.self.now.left; right = g.met.R.Placement.lawful c.args.self.now.right; result = g.met.S.Placement.lawful c.args.self.now.result })
-    (sym c.are_long.ensures ∙ c.if-not-are_long.false) c.copy_table-in-Right-source-3.result c.copy_table-in-Right-source-3.new.store c.copy_table-in-Right-source-3.ensures.answer c.copy_table-in-Right-source-3.ensures.cells
+    Product (sym c.try_from.ensures ∙ c.in_ok-target.was ∙ ap (λ (x : Table). Ok x) c.in-Result-Right.is-0)
+    Right (sym c.try_from-2.ensures ∙ c.in_ok-source.was ∙ ap (λ (x : Table). Ok x) c.in-Result-Right.is-1) c.if-to-from.false
+    (all_lawful g.L.Placement g.R.Placement g.S.Placement g.met.L.Placement.lawful g.met.R.Placement.lawful g.met.S.Placement.lawful c.args.self.now.tables)
+    (sym c.are_stored_in.ensures ∙ c.if-not-are_stored_in.false) c.copy_table-in-Result-Right.result c.copy_table-in-Result-Right.new.store
+    (rw (c.new-in-Result-Right.ensures.placement) at c.copy_table-in-Result-Right.ensures.answer) (rw (c.new-in-Result-Right.ensures.placement, c.new-in-Result-Right.ensures.store) at c.copy_table-in-Result-Right.ensures.cells)
