@@ -1,3 +1,4 @@
 pub mod Begins
 pub mod Plays
 pub mod Whole
+pub mod Offered

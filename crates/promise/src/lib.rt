@@ -70,24 +70,9 @@ mod tests {
             &mut results,
             &calls,
         )?;
-        let made = outcome.answers.get(1).copied().unwrap_or(Answer::Done);
-        assert_eq!(rt; count(made), 2);
-        let time = outcome.answers.get(4).copied().unwrap_or(Answer::Done);
-        assert_eq!(rt; minutes(time), 7);
+        assert_eq!(rt; outcome.answers.get(1).copied(), Some(Answer::Made(2)));
+        let best = Answer::Entry(TravelTime::new(7));
+        assert_eq!(rt; outcome.answers.get(4).copied(), Some(best));
         Ok(())
-    }
-
-    fn count(answer: Answer<TravelTime>) -> u64 {
-        match answer {
-            Answer::Made(made) => made,
-            _ => 0,
-        }
-    }
-
-    fn minutes(answer: Answer<TravelTime>) -> u32 {
-        match answer {
-            Answer::Entry(time) => time.value,
-            _ => 0,
-        }
     }
 }

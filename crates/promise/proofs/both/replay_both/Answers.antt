@@ -2,6 +2,7 @@ use Rattle.std.proofs.Common.{vec_items, refl}
 use Rattle.std.proofs.lemmas.Result.{err_from_is_err_and}
 use Rattle.calls.specs.Moments.{moment}
 use Rattle.decoding.proofs.OneForm.{one_form}
+use Rattle.trio.proofs.Laws.{all_lawful}
 use Rattle.trio.specs.Trios.{idle_trio}
 use Rattle.promise.specs.Replays.{state_mode}
 use Rattle.promise.proofs.Whole.{whole, agreed}
@@ -10,7 +11,7 @@ use Rattle.promise.proofs.both.replay_both.Goals as goal
 pub returns-in_err-room : goal.returns-in_err-room
 returns-in_err-room g c =
     let p = err_from_is_err_and c.from_residual.result c.from_residual.ensures.1 in
-    let w = whole g.E.Kind (idle_trio g.L.Placement g.R.Placement g.S.Placement c.args.first) (idle_trio g.M.Placement g.N.Placement g.O.Placement c.args.second) (record { associative = g.met.E.Kind.associative; commutative = g.met.E.Kind.commutative; neutral = g.met.E.Kind.neutral }) (record { left = g.met.L.Placement.lawful c.args.first.left; right = g.met.R.Placement.lawful c.args.first.right; result = g.met.S.Placement.lawful c.args.first.result }) (record { left = g.met.M.Placement.lawful c.args.second.left; right = g.met.N.Placement.lawful c.args.second.right; result = g.met.O.Placement.lawful c.args.second.result }) in
+    let w = whole g.E.Kind (idle_trio g.L.Placement g.R.Placement g.S.Placement c.args.first) (idle_trio g.M.Placement g.N.Placement g.O.Placement c.args.second) (record { associative = g.met.E.Kind.associative; commutative = g.met.E.Kind.commutative; neutral = g.met.E.Kind.neutral }) (all_lawful g.L.Placement g.R.Placement g.S.Placement g.met.L.Placement.lawful g.met.R.Placement.lawful g.met.S.Placement.lawful c.args.first.tables) (all_lawful g.M.Placement g.N.Placement g.O.Placement g.met.M.Placement.lawful g.met.N.Placement.lawful g.met.O.Placement.lawful c.args.second.tables) in
     rw p.1 (record {
       first = refl;
       second = refl;
@@ -28,7 +29,7 @@ returns-in_err-room g c =
 pub returns-in_err-other_room : goal.returns-in_err-other_room
 returns-in_err-other_room g c =
     let p = err_from_is_err_and c.from_residual-in_err-other_room.result c.from_residual-in_err-other_room.ensures.1 in
-    let w = whole g.E.Kind (idle_trio g.L.Placement g.R.Placement g.S.Placement c.args.first) (idle_trio g.M.Placement g.N.Placement g.O.Placement c.args.second) (record { associative = g.met.E.Kind.associative; commutative = g.met.E.Kind.commutative; neutral = g.met.E.Kind.neutral }) (record { left = g.met.L.Placement.lawful c.args.first.left; right = g.met.R.Placement.lawful c.args.first.right; result = g.met.S.Placement.lawful c.args.first.result }) (record { left = g.met.M.Placement.lawful c.args.second.left; right = g.met.N.Placement.lawful c.args.second.right; result = g.met.O.Placement.lawful c.args.second.result }) in
+    let w = whole g.E.Kind (idle_trio g.L.Placement g.R.Placement g.S.Placement c.args.first) (idle_trio g.M.Placement g.N.Placement g.O.Placement c.args.second) (record { associative = g.met.E.Kind.associative; commutative = g.met.E.Kind.commutative; neutral = g.met.E.Kind.neutral }) (all_lawful g.L.Placement g.R.Placement g.S.Placement g.met.L.Placement.lawful g.met.R.Placement.lawful g.met.S.Placement.lawful c.args.first.tables) (all_lawful g.M.Placement g.N.Placement g.O.Placement g.met.M.Placement.lawful g.met.N.Placement.lawful g.met.O.Placement.lawful c.args.second.tables) in
     rw p.1 (record {
       first = refl;
       second = refl;
@@ -45,7 +46,7 @@ returns-in_err-other_room g c =
 
 pub returns : goal.returns
 returns g c =
-    let w = whole g.E.Kind (idle_trio g.L.Placement g.R.Placement g.S.Placement c.args.first) (idle_trio g.M.Placement g.N.Placement g.O.Placement c.args.second) (record { associative = g.met.E.Kind.associative; commutative = g.met.E.Kind.commutative; neutral = g.met.E.Kind.neutral }) (record { left = g.met.L.Placement.lawful c.args.first.left; right = g.met.R.Placement.lawful c.args.first.right; result = g.met.S.Placement.lawful c.args.first.result }) (record { left = g.met.M.Placement.lawful c.args.second.left; right = g.met.N.Placement.lawful c.args.second.right; result = g.met.O.Placement.lawful c.args.second.result }) in
+    let w = whole g.E.Kind (idle_trio g.L.Placement g.R.Placement g.S.Placement c.args.first) (idle_trio g.M.Placement g.N.Placement g.O.Placement c.args.second) (record { associative = g.met.E.Kind.associative; commutative = g.met.E.Kind.commutative; neutral = g.met.E.Kind.neutral }) (all_lawful g.L.Placement g.R.Placement g.S.Placement g.met.L.Placement.lawful g.met.R.Placement.lawful g.met.S.Placement.lawful c.args.first.tables) (all_lawful g.M.Placement g.N.Placement g.O.Placement g.met.M.Placement.lawful g.met.N.Placement.lawful g.met.O.Placement.lawful c.args.second.tables) in
     record {
       first = c.play-first.ensures.made;
       second = c.play-second.ensures.made;

@@ -1,11 +1,12 @@
 use Rattle.std.proofs.Common.{sym, refl, ap, ◌∙◌}
-use Rattle.calls.specs.declared.call.Call.TheVariants.{Begin, Step, Remaining, End}
-use Rattle.calls.specs.declared.call.Answer.TheVariants.{Done, Refused, NotOffered}
+use Rattle.calls.specs.declared.call.Call.TheVariants.{Begin}
+use Rattle.calls.specs.declared.call.Answer.TheVariants.{Done, Refused}
 use Rattle.calls.specs.Moments.{moment, opened}
-use Rattle.calls.proofs.Outcomes.{called_at, step_resting, remaining_resting, end_resting}
+use Rattle.calls.proofs.Outcomes.{called_at}
 use Rattle.trio.specs.declared.Idle.{Idle}
 use Rattle.trio.specs.declared.Run.{Run}
 use Rattle.trio.specs.Trios.{idle_trio, run_trio, run_mode}
+use Rattle.promise.proofs.Offered.{idle_offers_none}
 use Rattle.promise.proofs.Begins.{began, kept}
 use Rattle.promise.proofs.making.make_resting.Goals as goal
 
@@ -28,25 +29,7 @@ returns-in-Err g c =
     }
 
 pub returns-in-Step : goal.returns-in-Step
-returns-in-Step g c =
-    let t = (idle_trio g.L.Placement g.R.Placement g.S.Placement c.args.resting) in
-    record {
-      made = called_at g.E.Kind t (opened c.args.lefts.now c.args.rights.now c.args.results.now) (opened c.args.lefts.now c.args.rights.now c.args.results.now) NotOffered c.args.call (Step c.in-Step.count) c.in-Step.is (step_resting g.E.Kind t c.args.lefts.now c.args.rights.now c.args.results.now c.in-Step.count);
-      tables = refl;
-    }
-
-pub returns-in-Remaining : goal.returns-in-Remaining
-returns-in-Remaining g c =
-    let t = (idle_trio g.L.Placement g.R.Placement g.S.Placement c.args.resting) in
-    record {
-      made = called_at g.E.Kind t (opened c.args.lefts.now c.args.rights.now c.args.results.now) (opened c.args.lefts.now c.args.rights.now c.args.results.now) NotOffered c.args.call Remaining c.in-Remaining.is (remaining_resting g.E.Kind t c.args.lefts.now c.args.rights.now c.args.results.now);
-      tables = refl;
-    }
-
-pub returns-in-End : goal.returns-in-End
-returns-in-End g c =
-    let t = (idle_trio g.L.Placement g.R.Placement g.S.Placement c.args.resting) in
-    record {
-      made = called_at g.E.Kind t (opened c.args.lefts.now c.args.rights.now c.args.results.now) (opened c.args.lefts.now c.args.rights.now c.args.results.now) NotOffered c.args.call End c.in-End.is (end_resting g.E.Kind t c.args.lefts.now c.args.rights.now c.args.results.now);
-      tables = refl;
-    }
+returns-in-Step g c = record {
+  made = idle_offers_none g.E.Kind (idle_trio g.L.Placement g.R.Placement g.S.Placement c.args.resting) c.args.lefts.now c.args.rights.now c.args.results.now c.args.call c.in-Step.is;
+  tables = refl;
+}
