@@ -2,3 +2,4 @@ pub mod Begins
 pub mod Fills
 pub mod Products
 pub mod Laws
+pub mod Named

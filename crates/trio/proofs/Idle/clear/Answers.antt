@@ -1,10 +1,10 @@
-use Rattle.std.proofs.Common.{Ok, sym, ap, ◌∙◌}
+use Rattle.std.proofs.Common.{sym, ◌∙◌}
 use Rattle.std.proofs.lemmas.Result.{err_from_is_err_and}
-use Rattle.calls.specs.declared.table.Table.{Table}
 use Rattle.calls.specs.declared.table.Table.TheVariants.{Left, Right, Result as Product}
 use Rattle.calls.proofs.Outcomes.{clear_unnamed, clear_short, clear_made}
 use Rattle.trio.proofs.Laws.{all_lawful}
 use Rattle.trio.specs.Trios.{idle_trio}
+use Rattle.trio.proofs.Named.{named_as}
 use Rattle.trio.proofs.Idle.clear.Goals as goal
 
 pub returns-in_err-named : goal.returns-in_err-named
@@ -23,7 +23,7 @@ returns-in-Left g c =
     clear_made g.E.Kind (idle_trio g.L.Placement g.R.Placement g.S.Placement c.args.self.now) c.args.lefts.now c.args.rights.now c.args.results.now
     c.args.table
     (all_lawful g.L.Placement g.R.Placement g.S.Placement g.met.L.Placement.lawful g.met.R.Placement.lawful g.met.S.Placement.lawful c.args.self.now.tables)
-    Left (sym c.try_from.ensures ∙ c.in_ok-named.was ∙ ap (λ (x : Table). Ok x) c.in-Left.is) (sym c.are_stored_in.ensures ∙ c.if-not-are_stored_in.false)
+    Left (named_as c.args.table c.try_from.ensures c.in_ok-named.was c.in-Left.is) (sym c.are_stored_in.ensures ∙ c.if-not-are_stored_in.false)
     c.clear_table.new.store c.clear_table.ensures
 
 pub returns-in-Right : goal.returns-in-Right
@@ -31,7 +31,7 @@ returns-in-Right g c =
     clear_made g.E.Kind (idle_trio g.L.Placement g.R.Placement g.S.Placement c.args.self.now) c.args.lefts.now c.args.rights.now c.args.results.now
     c.args.table
     (all_lawful g.L.Placement g.R.Placement g.S.Placement g.met.L.Placement.lawful g.met.R.Placement.lawful g.met.S.Placement.lawful c.args.self.now.tables)
-    Right (sym c.try_from.ensures ∙ c.in_ok-named.was ∙ ap (λ (x : Table). Ok x) c.in-Right.is) (sym c.are_stored_in.ensures ∙ c.if-not-are_stored_in.false)
+    Right (named_as c.args.table c.try_from.ensures c.in_ok-named.was c.in-Right.is) (sym c.are_stored_in.ensures ∙ c.if-not-are_stored_in.false)
     c.clear_table-in-Right.new.store c.clear_table-in-Right.ensures
 
 pub returns-in-Result : goal.returns-in-Result
@@ -39,5 +39,5 @@ returns-in-Result g c =
     clear_made g.E.Kind (idle_trio g.L.Placement g.R.Placement g.S.Placement c.args.self.now) c.args.lefts.now c.args.rights.now c.args.results.now
     c.args.table
     (all_lawful g.L.Placement g.R.Placement g.S.Placement g.met.L.Placement.lawful g.met.R.Placement.lawful g.met.S.Placement.lawful c.args.self.now.tables)
-    Product (sym c.try_from.ensures ∙ c.in_ok-named.was ∙ ap (λ (x : Table). Ok x) c.in-Result.is) (sym c.are_stored_in.ensures ∙ c.if-not-are_stored_in.false)
+    Product (named_as c.args.table c.try_from.ensures c.in_ok-named.was c.in-Result.is) (sym c.are_stored_in.ensures ∙ c.if-not-are_stored_in.false)
     c.clear_table-in-Result.new.store c.clear_table-in-Result.ensures

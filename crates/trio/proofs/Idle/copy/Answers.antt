@@ -1,10 +1,10 @@
-use Rattle.std.proofs.Common.{Ok, sym, ap, ◌∙◌}
+use Rattle.std.proofs.Common.{sym, ◌∙◌}
 use Rattle.std.proofs.lemmas.Result.{err_from_is_err_and}
-use Rattle.calls.specs.declared.table.Table.{Table}
 use Rattle.calls.specs.declared.table.Table.TheVariants.{Left, Right, Result as Product}
 use Rattle.calls.proofs.Outcomes.{copy_to_unnamed, copy_from_unnamed, copy_twice, copy_short, copy_made}
 use Rattle.trio.proofs.Laws.{all_lawful}
 use Rattle.trio.specs.Trios.{idle_trio}
+use Rattle.trio.proofs.Named.{named_as}
 use Rattle.trio.proofs.Idle.copy.Goals as goal
 
 pub returns-in_err-target : goal.returns-in_err-target
@@ -36,8 +36,8 @@ pub returns-in-Left-Right : goal.returns-in-Left-Right
 returns-in-Left-Right g c =
     copy_made g.E.Kind (idle_trio g.L.Placement g.R.Placement g.S.Placement c.args.self.now) c.args.lefts.now c.args.rights.now c.args.results.now
     c.args.to c.args.from c.args.transposed
-    Left (sym c.try_from.ensures ∙ c.in_ok-target.was ∙ ap (λ (x : Table). Ok x) c.in-Left-Right.is-0)
-    Right (sym c.try_from-2.ensures ∙ c.in_ok-source.was ∙ ap (λ (x : Table). Ok x) c.in-Left-Right.is-1) c.if-to-from.false
+    Left (named_as c.args.to c.try_from.ensures c.in_ok-target.was c.in-Left-Right.is-0)
+    Right (named_as c.args.from c.try_from-2.ensures c.in_ok-source.was c.in-Left-Right.is-1) c.if-to-from.false
     (all_lawful g.L.Placement g.R.Placement g.S.Placement g.met.L.Placement.lawful g.met.R.Placement.lawful g.met.S.Placement.lawful c.args.self.now.tables)
     (sym c.are_stored_in.ensures ∙ c.if-not-are_stored_in.false) c.copy_table.result c.copy_table.new.store
     (rw (c.new.ensures.placement) at c.copy_table.ensures.answer) (rw (c.new.ensures.placement, c.new.ensures.store) at c.copy_table.ensures.cells)
@@ -46,8 +46,8 @@ pub returns-in-Left-Result : goal.returns-in-Left-Result
 returns-in-Left-Result g c =
     copy_made g.E.Kind (idle_trio g.L.Placement g.R.Placement g.S.Placement c.args.self.now) c.args.lefts.now c.args.rights.now c.args.results.now
     c.args.to c.args.from c.args.transposed
-    Left (sym c.try_from.ensures ∙ c.in_ok-target.was ∙ ap (λ (x : Table). Ok x) c.in-Left-Result.is-0)
-    Product (sym c.try_from-2.ensures ∙ c.in_ok-source.was ∙ ap (λ (x : Table). Ok x) c.in-Left-Result.is-1) c.if-to-from.false
+    Left (named_as c.args.to c.try_from.ensures c.in_ok-target.was c.in-Left-Result.is-0)
+    Product (named_as c.args.from c.try_from-2.ensures c.in_ok-source.was c.in-Left-Result.is-1) c.if-to-from.false
     (all_lawful g.L.Placement g.R.Placement g.S.Placement g.met.L.Placement.lawful g.met.R.Placement.lawful g.met.S.Placement.lawful c.args.self.now.tables)
     (sym c.are_stored_in.ensures ∙ c.if-not-are_stored_in.false) c.copy_table-in-Left-Result.result c.copy_table-in-Left-Result.new.store
     (rw (c.new-in-Left-Result.ensures.placement) at c.copy_table-in-Left-Result.ensures.answer) (rw (c.new-in-Left-Result.ensures.placement, c.new-in-Left-Result.ensures.store) at c.copy_table-in-Left-Result.ensures.cells)
@@ -56,8 +56,8 @@ pub returns-in-Right-Left : goal.returns-in-Right-Left
 returns-in-Right-Left g c =
     copy_made g.E.Kind (idle_trio g.L.Placement g.R.Placement g.S.Placement c.args.self.now) c.args.lefts.now c.args.rights.now c.args.results.now
     c.args.to c.args.from c.args.transposed
-    Right (sym c.try_from.ensures ∙ c.in_ok-target.was ∙ ap (λ (x : Table). Ok x) c.in-Right-Left.is-0)
-    Left (sym c.try_from-2.ensures ∙ c.in_ok-source.was ∙ ap (λ (x : Table). Ok x) c.in-Right-Left.is-1) c.if-to-from.false
+    Right (named_as c.args.to c.try_from.ensures c.in_ok-target.was c.in-Right-Left.is-0)
+    Left (named_as c.args.from c.try_from-2.ensures c.in_ok-source.was c.in-Right-Left.is-1) c.if-to-from.false
     (all_lawful g.L.Placement g.R.Placement g.S.Placement g.met.L.Placement.lawful g.met.R.Placement.lawful g.met.S.Placement.lawful c.args.self.now.tables)
     (sym c.are_stored_in.ensures ∙ c.if-not-are_stored_in.false) c.copy_table-in-Right-Left.result c.copy_table-in-Right-Left.new.store
     (rw (c.new-in-Right-Left.ensures.placement) at c.copy_table-in-Right-Left.ensures.answer) (rw (c.new-in-Right-Left.ensures.placement, c.new-in-Right-Left.ensures.store) at c.copy_table-in-Right-Left.ensures.cells)
@@ -66,8 +66,8 @@ pub returns-in-Right-Result : goal.returns-in-Right-Result
 returns-in-Right-Result g c =
     copy_made g.E.Kind (idle_trio g.L.Placement g.R.Placement g.S.Placement c.args.self.now) c.args.lefts.now c.args.rights.now c.args.results.now
     c.args.to c.args.from c.args.transposed
-    Right (sym c.try_from.ensures ∙ c.in_ok-target.was ∙ ap (λ (x : Table). Ok x) c.in-Right-Result.is-0)
-    Product (sym c.try_from-2.ensures ∙ c.in_ok-source.was ∙ ap (λ (x : Table). Ok x) c.in-Right-Result.is-1) c.if-to-from.false
+    Right (named_as c.args.to c.try_from.ensures c.in_ok-target.was c.in-Right-Result.is-0)
+    Product (named_as c.args.from c.try_from-2.ensures c.in_ok-source.was c.in-Right-Result.is-1) c.if-to-from.false
     (all_lawful g.L.Placement g.R.Placement g.S.Placement g.met.L.Placement.lawful g.met.R.Placement.lawful g.met.S.Placement.lawful c.args.self.now.tables)
     (sym c.are_stored_in.ensures ∙ c.if-not-are_stored_in.false) c.copy_table-in-Right-Result.result c.copy_table-in-Right-Result.new.store
     (rw (c.new-in-Right-Result.ensures.placement) at c.copy_table-in-Right-Result.ensures.answer) (rw (c.new-in-Right-Result.ensures.placement, c.new-in-Right-Result.ensures.store) at c.copy_table-in-Right-Result.ensures.cells)
@@ -76,8 +76,8 @@ pub returns-in-Result-Left : goal.returns-in-Result-Left
 returns-in-Result-Left g c =
     copy_made g.E.Kind (idle_trio g.L.Placement g.R.Placement g.S.Placement c.args.self.now) c.args.lefts.now c.args.rights.now c.args.results.now
     c.args.to c.args.from c.args.transposed
-    Product (sym c.try_from.ensures ∙ c.in_ok-target.was ∙ ap (λ (x : Table). Ok x) c.in-Result-Left.is-0)
-    Left (sym c.try_from-2.ensures ∙ c.in_ok-source.was ∙ ap (λ (x : Table). Ok x) c.in-Result-Left.is-1) c.if-to-from.false
+    Product (named_as c.args.to c.try_from.ensures c.in_ok-target.was c.in-Result-Left.is-0)
+    Left (named_as c.args.from c.try_from-2.ensures c.in_ok-source.was c.in-Result-Left.is-1) c.if-to-from.false
     (all_lawful g.L.Placement g.R.Placement g.S.Placement g.met.L.Placement.lawful g.met.R.Placement.lawful g.met.S.Placement.lawful c.args.self.now.tables)
     (sym c.are_stored_in.ensures ∙ c.if-not-are_stored_in.false) c.copy_table-in-Result-Left.result c.copy_table-in-Result-Left.new.store
     (rw (c.new-in-Result-Left.ensures.placement) at c.copy_table-in-Result-Left.ensures.answer) (rw (c.new-in-Result-Left.ensures.placement, c.new-in-Result-Left.ensures.store) at c.copy_table-in-Result-Left.ensures.cells)
@@ -86,8 +86,8 @@ pub returns-in-Result-Right : goal.returns-in-Result-Right
 returns-in-Result-Right g c =
     copy_made g.E.Kind (idle_trio g.L.Placement g.R.Placement g.S.Placement c.args.self.now) c.args.lefts.now c.args.rights.now c.args.results.now
     c.args.to c.args.from c.args.transposed
-    Product (sym c.try_from.ensures ∙ c.in_ok-target.was ∙ ap (λ (x : Table). Ok x) c.in-Result-Right.is-0)
-    Right (sym c.try_from-2.ensures ∙ c.in_ok-source.was ∙ ap (λ (x : Table). Ok x) c.in-Result-Right.is-1) c.if-to-from.false
+    Product (named_as c.args.to c.try_from.ensures c.in_ok-target.was c.in-Result-Right.is-0)
+    Right (named_as c.args.from c.try_from-2.ensures c.in_ok-source.was c.in-Result-Right.is-1) c.if-to-from.false
     (all_lawful g.L.Placement g.R.Placement g.S.Placement g.met.L.Placement.lawful g.met.R.Placement.lawful g.met.S.Placement.lawful c.args.self.now.tables)
     (sym c.are_stored_in.ensures ∙ c.if-not-are_stored_in.false) c.copy_table-in-Result-Right.result c.copy_table-in-Result-Right.new.store
     (rw (c.new-in-Result-Right.ensures.placement) at c.copy_table-in-Result-Right.ensures.answer) (rw (c.new-in-Result-Right.ensures.placement, c.new-in-Result-Right.ensures.store) at c.copy_table-in-Result-Right.ensures.cells)

@@ -1,9 +1,9 @@
-use Rattle.std.proofs.Common.{Ok, sym, ap, ◌∙◌}
+use Rattle.std.proofs.Common.{sym, ◌∙◌}
 use Rattle.std.proofs.lemmas.Result.{err_from_is_err_and}
-use Rattle.calls.specs.declared.table.Table.{Table}
 use Rattle.calls.specs.declared.table.Table.TheVariants.{Left, Right, Result as Product}
 use Rattle.calls.proofs.Outcomes.{get_unnamed, get_short, get_made}
 use Rattle.trio.specs.Trios.{idle_trio}
+use Rattle.trio.proofs.Named.{named_as}
 use Rattle.trio.proofs.Idle.get.Goals as goal
 
 pub returns-in_err-named : goal.returns-in_err-named
@@ -21,19 +21,19 @@ pub returns-in-Left : goal.returns-in-Left
 returns-in-Left g c =
     get_made g.E.Kind (idle_trio g.L.Placement g.R.Placement g.S.Placement c.args.self.now) c.args.lefts.now c.args.rights.now c.args.results.now
     c.args.table c.args.row c.args.column
-    Left (sym c.try_from.ensures ∙ c.in_ok-named.was ∙ ap (λ (x : Table). Ok x) c.in-Left.is) (sym c.are_stored_in.ensures ∙ c.if-not-are_stored_in.false)
+    Left (named_as c.args.table c.try_from.ensures c.in_ok-named.was c.in-Left.is) (sym c.are_stored_in.ensures ∙ c.if-not-are_stored_in.false)
     c.get_entry.result (rw (c.new.ensures.placement, c.new.ensures.store) at c.get_entry.ensures)
 
 pub returns-in-Right : goal.returns-in-Right
 returns-in-Right g c =
     get_made g.E.Kind (idle_trio g.L.Placement g.R.Placement g.S.Placement c.args.self.now) c.args.lefts.now c.args.rights.now c.args.results.now
     c.args.table c.args.row c.args.column
-    Right (sym c.try_from.ensures ∙ c.in_ok-named.was ∙ ap (λ (x : Table). Ok x) c.in-Right.is) (sym c.are_stored_in.ensures ∙ c.if-not-are_stored_in.false)
+    Right (named_as c.args.table c.try_from.ensures c.in_ok-named.was c.in-Right.is) (sym c.are_stored_in.ensures ∙ c.if-not-are_stored_in.false)
     c.get_entry-in-Right.result (rw (c.new-in-Right.ensures.placement, c.new-in-Right.ensures.store) at c.get_entry-in-Right.ensures)
 
 pub returns-in-Result : goal.returns-in-Result
 returns-in-Result g c =
     get_made g.E.Kind (idle_trio g.L.Placement g.R.Placement g.S.Placement c.args.self.now) c.args.lefts.now c.args.rights.now c.args.results.now
     c.args.table c.args.row c.args.column
-    Product (sym c.try_from.ensures ∙ c.in_ok-named.was ∙ ap (λ (x : Table). Ok x) c.in-Result.is) (sym c.are_stored_in.ensures ∙ c.if-not-are_stored_in.false)
+    Product (named_as c.args.table c.try_from.ensures c.in_ok-named.was c.in-Result.is) (sym c.are_stored_in.ensures ∙ c.if-not-are_stored_in.false)
     c.get_entry-in-Result.result (rw (c.new-in-Result.ensures.placement, c.new-in-Result.ensures.store) at c.get_entry-in-Result.ensures)
