@@ -1,47 +1,18 @@
 // Why the program gives up.
 use descriptor::Fault;
 use masked::Refusal;
-use std::alloc::{AllocError, AllocFailed};
+use std::alloc::AllocError;
 use std::io;
+use thiserror::Error;
 
-#[derive(Debug, Drop)]
+#[derive(Debug, Drop, Error)]
 pub enum Failure {
-    // There was not enough memory.
-    Memory,
-    // Nothing more could be printed.
-    Output(io::Error),
-    // The library declined a call that has to be made.
-    Declined(Refusal),
-    // The reader did not accept a descriptor.
-    Unreadable(Fault),
-}
-
-impl From<AllocError> for Failure {
-    fn from(_error: AllocError) -> Failure {
-        Failure::Memory
-    }
-}
-
-impl<T: Drop> From<AllocFailed<T>> for Failure {
-    fn from(_error: AllocFailed<T>) -> Failure {
-        Failure::Memory
-    }
-}
-
-impl From<io::Error> for Failure {
-    fn from(error: io::Error) -> Failure {
-        Failure::Output(error)
-    }
-}
-
-impl From<Refusal> for Failure {
-    fn from(refusal: Refusal) -> Failure {
-        Failure::Declined(refusal)
-    }
-}
-
-impl From<Fault> for Failure {
-    fn from(fault: Fault) -> Failure {
-        Failure::Unreadable(fault)
-    }
+    #[error("there was not enough memory")]
+    Memory(#[from(alloc)] AllocError),
+    #[error("nothing more could be printed: {0}")]
+    Output(#[from] io::Error),
+    #[error("the library declined a call that has to be made: {0:?}")]
+    Declined(#[from] Refusal),
+    #[error("the reader did not accept a descriptor: {0:?}")]
+    Unreadable(#[from] Fault),
 }

@@ -12,13 +12,13 @@ mod shown;
 mod site;
 mod sites;
 mod tables;
-mod tally;
 mod texts;
 
+use calls::Table;
 use failure::Failure;
 use kinds::{Connection, Count, TravelTime};
 use network::Zone;
-use script::{LEFT, RESULT};
+use replies::compared;
 use shown::Shown;
 use site::Site;
 use sites::Sites;
@@ -28,7 +28,7 @@ use tally::Tally;
 
 // A site, with how its tables lie.
 fn print_site(rt: &HostRuntime, text: &str, site: &Site<TravelTime>) -> Result<(), Failure> {
-    let letter = site.letter()?;
+    let letter = site.letter(rt.alloc())?;
     let cells = site.cells();
     let pairs = Zone::PAIRS;
     println!(rt;
@@ -44,7 +44,7 @@ fn print_exchange(rt: &HostRuntime, times: &Sites<TravelTime>) -> Result<(), Fai
     let title = texts::DIRECT;
     let sheet = Sheet {
         site: &times.router,
-        table: LEFT,
+        table: Table::Left,
     };
     println!(rt; "{title}\n{sheet}")?;
     Ok(())
@@ -54,10 +54,10 @@ fn print_exchange(rt: &HostRuntime, times: &Sites<TravelTime>) -> Result<(), Fai
 fn print_same_calls(rt: &HostRuntime, times: &mut Sites<TravelTime>) -> io::Result<Tally> {
     let replies = times.make_same(rt.alloc())?;
     let title = texts::CALLS;
-    let transcript = Transcript(&replies);
+    let transcript = Transcript(replies.as_slice());
     let declined = texts::DECLINED;
     println!(rt; "{title}\n{transcript}\n{declined}")?;
-    Ok(replies.compared())
+    Ok(compared(replies.as_slice()))
 }
 
 // Both make the product once more, each at its own pace, and the finished table is printed.
@@ -70,17 +70,26 @@ fn print_product<E: Shown>(
     let (slow, fast) = sites.make_apart(rt.alloc())?;
     let sheet = Sheet {
         site: &sites.router,
-        table: RESULT,
+        table: Table::Result,
     };
     println!(rt; "{title}\n{sheet}")?;
     println!(rt; "   Tile products made: office {slow}, router {fast}.")?;
     print_findings(rt, answers, sites)
 }
 
+// What a comparison of the two sites comes to.
+fn verdict(compared: Tally) -> &'static str {
+    if compared.is_clean() {
+        "The sites agree."
+    } else {
+        "THE SITES DIFFER."
+    }
+}
+
 // Whether the sites agree, and whether the idle cells were left alone.
 fn print_findings<E: Shown>(rt: &HostRuntime, answers: Tally, sites: &Sites<E>) -> io::Result<()> {
     let entries = sites.agreement();
-    let verdict = answers.and(entries).verdict();
+    let verdict = verdict(answers.and(entries));
     let office = sites.office.idle_cells();
     let router = sites.router.idle_cells();
     println!(rt; "   The same at both: {answers} answers, {entries} entries. {verdict}")?;
@@ -98,7 +107,8 @@ fn travel_times(rt: &HostRuntime) -> Result<(), Failure> {
 // The same exchange and the same calls for another kind of element, of which the finished table is printed.
 fn same_for<E: Shown>(rt: &HostRuntime, title: &str) -> Result<(), Failure> {
     let mut sites = Sites::<E>::exchanged(rt.alloc())?;
-    let answers = sites.make_same(rt.alloc())?.compared();
+    let replies = sites.make_same(rt.alloc())?;
+    let answers = compared(replies.as_slice());
     Ok(print_product(rt, title, answers, &mut sites)?)
 }
 

@@ -12,21 +12,27 @@ pub struct Pace {
 impl Pace {
     // The pace that the answers to a list of calls tell.
     pub fn of<E: Shown>(answers: &[Answer<E>]) -> Pace {
-        let mut pace = Pace { made: 0, steps: 0 };
-        for answer in answers {
-            if let Answer::Made(count) = *answer {
-                pace.made = pace.made.saturating_add(count);
-                pace.steps = pace.steps.saturating_add(1);
-            }
+        answers
+            .iter()
+            .filter_map(|answer| match answer {
+                Answer::Made(count) => Some(*count),
+                _ => None,
+            })
+            .fold(Pace { made: 0, steps: 0 }, Pace::and_step)
+    }
+
+    // This pace, and a step more that made so many tile products.
+    fn and_step(self, count: u64) -> Pace {
+        Pace {
+            made: self.made.saturating_add(count),
+            steps: self.steps.saturating_add(1),
         }
-        pace
     }
 }
 
 impl fmt::Display for Pace {
     fn fmt<W: fmt::Write>(&self, f: &mut fmt::Formatter<W>) -> fmt::Result {
-        let made = self.made;
-        let steps = self.steps;
+        let Pace { made, steps } = *self;
         write!(f, "{made} (steps: {steps})")
     }
 }

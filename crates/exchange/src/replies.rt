@@ -1,48 +1,23 @@
 // The answers of the two sites to one list of calls.
 use crate::shown::{Shown, Written};
-use crate::tally::Tally;
 use calls::Answer;
 use std::fmt;
+use tally::Tally;
 
+// A call in words, and what each site answered.
 #[derive(Drop)]
-pub struct Replies<E> {
-    pub office: Vec<Answer<E>>,
-    pub router: Vec<Answer<E>>,
+pub struct Reply<E> {
+    pub words: &'static str,
+    pub office: Answer<E>,
+    pub router: Answer<E>,
 }
 
-impl<E: Shown> Replies<E> {
-    // The answers of both to the n-th call.
-    pub fn to_call(&self, n: usize) -> Option<(Answer<E>, Answer<E>)> {
-        match (self.office.get(n), self.router.get(n)) {
-            (Some(office), Some(router)) => Some((*office, *router)),
-            _ => None,
-        }
-    }
-
-    // How many answers are the same at both sites.
-    pub fn compared(&self) -> Tally {
-        let mut tally = Tally::new();
-        for n in 0..self.office.len().max(self.router.len()) {
-            tally.note(match self.to_call(n) {
-                Some((office, router)) => is_same(office, router),
-                None => false,
-            });
-        }
-        tally
-    }
-}
-
-// Whether two answers are the same.
-fn is_same<E: Shown>(one: Answer<E>, other: Answer<E>) -> bool {
-    match (one, other) {
-        (Answer::Done, Answer::Done) => true,
-        (Answer::Entry(a), Answer::Entry(b)) => a.number() == b.number(),
-        (Answer::Made(a), Answer::Made(b)) => a == b,
-        (Answer::ToMake(a), Answer::ToMake(b)) => a == b,
-        (Answer::Refused(a), Answer::Refused(b)) => a.number() == b.number(),
-        (Answer::NotOffered, Answer::NotOffered) => true,
-        _ => false,
-    }
+// How many answers are the same at both sites.
+pub fn compared<E: Shown>(replies: &[Reply<E>]) -> Tally {
+    replies
+        .iter()
+        .map(|reply| reply.office == reply.router)
+        .fold(Tally::new(), Tally::noting)
 }
 
 // An answer in words.

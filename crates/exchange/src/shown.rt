@@ -3,18 +3,15 @@ use kinds::{Connection, Count, Kind, TravelTime};
 use masked::Refusal;
 use std::fmt;
 
-pub trait Shown: Kind + Copy + Drop {
+pub trait Shown: Kind + Copy + Drop + PartialEq {
     // The entry of two zones with a direct journey of so many minutes. Where there is none, the entry is zero.
     fn direct(minutes: u32) -> Self;
 
     // What every cell holds before the first call, so that a cell that was written can be told from one that was not.
     fn marker() -> Self;
 
-    // The number that stands for the element: two elements are the same where their numbers are.
-    fn number(self) -> u32;
-
-    // How the element is written in a table that has no room for units.
-    fn word<W: fmt::Write>(self, f: &mut fmt::Formatter<W>) -> fmt::Result;
+    // How an element other than zero is written in a table that has no room for units.
+    fn word<W: fmt::Write>(&self, f: &mut fmt::Formatter<W>) -> fmt::Result;
 }
 
 // The marker, in minutes and as a count.
@@ -32,16 +29,8 @@ impl Shown for TravelTime {
         TravelTime::new(MARKER)
     }
 
-    fn number(self) -> u32 {
-        self.value
-    }
-
-    fn word<W: fmt::Write>(self, f: &mut fmt::Formatter<W>) -> fmt::Result {
-        if self.value == TravelTime::zero().value {
-            f.pad(NONE)
-        } else {
-            fmt::Display::fmt(&self.value, f)
-        }
+    fn word<W: fmt::Write>(&self, f: &mut fmt::Formatter<W>) -> fmt::Result {
+        fmt::Display::fmt(&self.value, f)
     }
 }
 
@@ -55,16 +44,8 @@ impl Shown for Count {
         Count::new(MARKER)
     }
 
-    fn number(self) -> u32 {
-        self.value
-    }
-
-    fn word<W: fmt::Write>(self, f: &mut fmt::Formatter<W>) -> fmt::Result {
-        if self.value == 0 {
-            f.pad(NONE)
-        } else {
-            fmt::Display::fmt(&self.value, f)
-        }
+    fn word<W: fmt::Write>(&self, f: &mut fmt::Formatter<W>) -> fmt::Result {
+        fmt::Display::fmt(&self.value, f)
     }
 }
 
@@ -78,12 +59,8 @@ impl Shown for Connection {
         Connection::new(true)
     }
 
-    fn number(self) -> u32 {
-        u32::from(self.linked)
-    }
-
-    fn word<W: fmt::Write>(self, f: &mut fmt::Formatter<W>) -> fmt::Result {
-        f.pad(if self.linked { "yes" } else { NONE })
+    fn word<W: fmt::Write>(&self, f: &mut fmt::Formatter<W>) -> fmt::Result {
+        f.pad("yes")
     }
 }
 
@@ -93,7 +70,11 @@ pub struct Written<E>(pub E);
 
 impl<E: Shown> fmt::Display for Written<E> {
     fn fmt<W: fmt::Write>(&self, f: &mut fmt::Formatter<W>) -> fmt::Result {
-        self.0.word(f)
+        if self.0 == E::zero() {
+            f.pad(NONE)
+        } else {
+            self.0.word(f)
+        }
     }
 }
 
@@ -104,7 +85,7 @@ pub struct Found<E>(pub Result<E, Refusal>);
 impl<E: Shown> fmt::Display for Found<E> {
     fn fmt<W: fmt::Write>(&self, f: &mut fmt::Formatter<W>) -> fmt::Result {
         match self.0 {
-            Ok(element) => element.word(f),
+            Ok(element) => fmt::Display::fmt(&Written(element), f),
             Err(_) => f.pad("refused"),
         }
     }

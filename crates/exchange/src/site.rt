@@ -3,21 +3,21 @@ use crate::failure::Failure;
 use crate::letter::Letter;
 use crate::network::Zone;
 use crate::pace::Pace;
-use crate::replies::Replies;
+use crate::replies::Reply;
 use crate::script;
-use crate::script::{LEFT, RIGHT};
+use crate::script::{LEFT, Question, RIGHT};
 use crate::shown::Shown;
-use crate::tally::Tally;
-use calls::{Answer, Call};
+use calls::{Answer, Call, Table};
 use layouts::Layout;
 use masked::Refusal;
 use placement::Placement;
 use promise::{replay, replay_both};
 use std::alloc::{AllocError, Global};
+use tally::Tally;
 use trio::Idle;
 
 // A store is longer than its table's span by this many cells.
-const SPARE: u32 = 3;
+const SPARE: usize = 3;
 
 #[derive(Drop)]
 pub struct Site<E> {
@@ -29,11 +29,7 @@ pub struct Site<E> {
 
 // A store for a table of the layout, with the marker in every cell.
 fn marked<E: Shown>(heap: Global, layout: &Layout) -> Result<Vec<E>, AllocError> {
-    let mut store = Vec::new(heap);
-    for _ in 0..layout.span().saturating_add(SPARE) {
-        store.push(E::marker())?;
-    }
-    Ok(store)
+    vec![in heap; E::marker(); layout.span() as usize + SPARE]
 }
 
 impl<E: Shown> Site<E> {
@@ -53,8 +49,8 @@ impl<E: Shown> Site<E> {
     }
 
     // The descriptor of the layout.
-    pub fn letter(&self) -> Result<Letter, Failure> {
-        Letter::about(&self.layout)
+    pub fn letter(&self, heap: Global) -> Result<Letter, Failure> {
+        Letter::about(heap, &self.layout)
     }
 
     // The tables as a trio. All three have one layout.
@@ -67,22 +63,13 @@ impl<E: Shown> Site<E> {
     // entry through the two placements.
     pub fn receive(&mut self, letter: &Letter, other: &mut Site<E>) -> Result<(), Failure> {
         let between = Idle::open(self.layout, letter.layout()?, self.layout);
-        between.copy(
-            self.lefts.as_mut_slice(),
-            other.lefts.as_mut_slice(),
-            self.results.as_mut_slice(),
-            LEFT,
-            RIGHT,
-            false,
-        )?;
-        between.copy(
-            self.rights.as_mut_slice(),
-            other.rights.as_mut_slice(),
-            self.results.as_mut_slice(),
-            LEFT,
-            RIGHT,
-            false,
-        )?;
+        let spare = self.results.as_mut_slice();
+        let mut take_over = |own: &mut Vec<E>, theirs: &mut Vec<E>| {
+            let (own, theirs) = (own.as_mut_slice(), theirs.as_mut_slice());
+            between.copy(own, theirs, spare, LEFT, RIGHT, false)
+        };
+        take_over(&mut self.lefts, &mut other.lefts)?;
+        take_over(&mut self.rights, &mut other.rights)?;
         Ok(())
     }
 
@@ -103,7 +90,7 @@ impl<E: Shown> Site<E> {
     pub fn make_product(
         &mut self,
         heap: Global,
-        steps: u32,
+        steps: usize,
         count: u64,
     ) -> Result<Pace, AllocError> {
         let calls = script::product(heap, steps, count)?;
@@ -112,35 +99,25 @@ impl<E: Shown> Site<E> {
     }
 
     // An entry of one of the tables.
-    pub fn entry(&self, table: u32, from: Zone, to: Zone) -> Result<E, Refusal> {
+    pub fn entry(&self, table: Table, from: Zone, to: Zone) -> Result<E, Refusal> {
         self.trio().get(
             self.lefts.as_slice(),
             self.rights.as_slice(),
             self.results.as_slice(),
-            table,
+            table as u32,
             from.index(),
             to.index(),
         )
     }
 
-    // Notes of each cell of a store that no entry has whether it still holds the marker.
-    fn note_idle(&self, tally: &mut Tally, store: &[E]) {
-        let mut cell = 0u32;
-        for element in store {
-            if self.layout.owner(cell).is_none() {
-                tally.note(element.number() == E::marker().number());
-            }
-            cell = cell.saturating_add(1);
-        }
-    }
-
     // How many of the cells that no entry has still hold the marker.
     pub fn idle_cells(&self) -> Tally {
-        let mut tally = Tally::new();
-        self.note_idle(&mut tally, self.lefts.as_slice());
-        self.note_idle(&mut tally, self.rights.as_slice());
-        self.note_idle(&mut tally, self.results.as_slice());
-        tally
+        [&self.lefts, &self.rights, &self.results]
+            .into_iter()
+            .flat_map(|store| (0..u32::MAX).zip(store.iter()))
+            .filter(|(cell, _)| self.layout.owner(*cell).is_none())
+            .map(|(_, element)| *element == E::marker())
+            .fold(Tally::new(), Tally::noting)
     }
 }
 
@@ -150,8 +127,12 @@ pub fn make_both<E: Shown>(
     heap: Global,
     office: &mut Site<E>,
     router: &mut Site<E>,
-    calls: &[Call<E>],
-) -> Result<Replies<E>, AllocError> {
+    questions: &[Question<E>],
+) -> Result<Vec<Reply<E>>, AllocError> {
+    let calls: Vec<Call<E>> = questions
+        .iter()
+        .map(|question| question.call)
+        .collect(heap)?;
     let outcomes = replay_both(
         heap,
         office.trio(),
@@ -162,10 +143,17 @@ pub fn make_both<E: Shown>(
         router.lefts.as_mut_slice(),
         router.rights.as_mut_slice(),
         router.results.as_mut_slice(),
-        calls,
+        calls.as_slice(),
     )?;
-    Ok(Replies {
-        office: outcomes.first.answers,
-        router: outcomes.second.answers,
-    })
+    let at_office = outcomes.first.answers.iter();
+    let at_router = outcomes.second.answers.iter();
+    questions
+        .iter()
+        .zip(at_office.zip(at_router))
+        .map(|(question, (office, router))| Reply {
+            words: question.words,
+            office: *office,
+            router: *router,
+        })
+        .collect(heap)
 }

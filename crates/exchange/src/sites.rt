@@ -2,14 +2,14 @@
 use crate::failure::Failure;
 use crate::network::Zone;
 use crate::pace::Pace;
-use crate::replies::Replies;
+use crate::replies::Reply;
 use crate::script;
-use crate::script::RESULT;
 use crate::shown::Shown;
 use crate::site::{Site, make_both};
-use crate::tally::Tally;
+use calls::Table;
 use placement::Shape;
 use std::alloc::{AllocError, Global};
+use tally::Tally;
 
 // The cells from the beginning of one row of the office to that of the next: no power of two.
 const STRIDE: u32 = 7;
@@ -42,7 +42,7 @@ impl<E: Shown> Sites<E> {
     fn exchange(&mut self, heap: Global) -> Result<(), Failure> {
         let calls = script::fill(heap)?;
         let _answers = self.office.make(heap, calls.as_slice())?;
-        let letter = self.office.letter()?;
+        let letter = self.office.letter(heap)?;
         self.router.receive(&letter, &mut self.office)
     }
 
@@ -54,9 +54,14 @@ impl<E: Shown> Sites<E> {
     }
 
     // Both make one list of calls: a whole run, with calls on the way that have to be declined.
-    pub fn make_same(&mut self, heap: Global) -> Result<Replies<E>, AllocError> {
-        let calls = script::same_for_both(heap)?;
-        make_both(heap, &mut self.office, &mut self.router, calls.as_slice())
+    pub fn make_same(&mut self, heap: Global) -> Result<Vec<Reply<E>>, AllocError> {
+        let questions = script::same_for_both(heap)?;
+        make_both(
+            heap,
+            &mut self.office,
+            &mut self.router,
+            questions.as_slice(),
+        )
     }
 
     // Both make the product once more, the office one tile product at a time and the router all at once.
@@ -71,12 +76,9 @@ impl<E: Shown> Sites<E> {
         let mut tally = Tally::new();
         for from in Zone::ALL {
             for to in Zone::ALL {
-                let office = self.office.entry(RESULT, from, to);
-                let router = self.router.entry(RESULT, from, to);
-                tally.note(match (office, router) {
-                    (Ok(one), Ok(other)) => one.number() == other.number(),
-                    _ => false,
-                });
+                let office = self.office.entry(Table::Result, from, to);
+                let router = self.router.entry(Table::Result, from, to);
+                tally.note(office.is_ok() && office == router);
             }
         }
         tally

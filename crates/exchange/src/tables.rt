@@ -1,16 +1,16 @@
 // Tables and lists as they are printed.
 use crate::network::Zone;
-use crate::replies::{Replies, Told};
-use crate::script::WORDS;
+use crate::replies::{Reply, Told};
 use crate::shown::{Found, Shown};
 use crate::site::Site;
+use calls::Table;
 use std::fmt;
 
 // A table of a site, with the zones as the heads of rows and columns.
 #[derive(Drop)]
 pub struct Sheet<'a, E> {
     pub site: &'a Site<E>,
-    pub table: u32,
+    pub table: Table,
 }
 
 impl<E: Shown> Sheet<'_, E> {
@@ -40,17 +40,16 @@ impl<E: Shown> fmt::Display for Sheet<'_, E> {
 
 // The list of calls that both sites made, each with the answers of the two side by side.
 #[derive(Drop)]
-pub struct Transcript<'a, E>(pub &'a Replies<E>);
+pub struct Transcript<'a, E>(pub &'a [Reply<E>]);
 
 impl<E: Shown> fmt::Display for Transcript<'_, E> {
     fn fmt<W: fmt::Write>(&self, f: &mut fmt::Formatter<W>) -> fmt::Result {
         f.write_str("     call                            office          router")?;
-        for (n, words) in WORDS.iter().enumerate() {
-            if let Some((office, router)) = self.0.to_call(n) {
-                let office = Told(office);
-                let router = Told(router);
-                write!(f, "\n     {words:<32}{office:<16}{router}")?;
-            }
+        for reply in self.0 {
+            let words = reply.words;
+            let office = Told(reply.office);
+            let router = Told(reply.router);
+            write!(f, "\n     {words:<32}{office:<16}{router}")?;
         }
         Ok(())
     }
