@@ -1,5 +1,5 @@
-// A table as a plain list of its entries, row by row.
-use crate::sample::Sample;
+// A table as a plain list of its rows.
+use crate::sample::{Sample, samples};
 use crate::source::Source;
 use placement::Shape;
 use std::alloc::{AllocError, Global};
@@ -7,17 +7,17 @@ use std::alloc::{AllocError, Global};
 #[derive(Drop)]
 pub struct Grid<E> {
     shape: Shape,
-    entries: Vec<E>,
+    rows: Vec<Vec<E>>,
 }
 
-impl<E: Sample + Drop> Grid<E> {
+impl<E: Sample> Grid<E> {
     // A table of random entries.
     pub fn random(heap: Global, source: &mut Source, shape: Shape) -> Result<Grid<E>, AllocError> {
-        let mut entries = Vec::new(heap);
-        for _ in 0..shape.rows.saturating_mul(shape.columns) {
-            entries.push(E::sample(source.next()))?;
+        let mut rows = Vec::new(heap);
+        for _ in 0..shape.rows {
+            rows.push(samples(heap, source, shape.columns)?)?;
         }
-        Ok(Grid { shape, entries })
+        Ok(Grid { shape, rows })
     }
 
     // How many rows and columns.
@@ -25,32 +25,53 @@ impl<E: Sample + Drop> Grid<E> {
         self.shape
     }
 
-    // Where in the list an entry stands, or none where the row or the column lies outside.
-    fn index(&self, row: u32, column: u32) -> Option<usize> {
-        if row < self.shape.rows && column < self.shape.columns {
-            let place = row
-                .saturating_mul(self.shape.columns)
-                .saturating_add(column);
-            Some(place as usize)
-        } else {
-            None
-        }
-    }
-
     // The entry, or none where the row or the column lies outside.
     pub fn entry(&self, row: u32, column: u32) -> Option<E> {
-        let index = self.index(row, column)?;
-        self.entries.get(index).copied()
+        self.rows.get(row as usize)?.get(column as usize).copied()
     }
 
-    // Writes an entry, and says whether there is one at the row and the column.
-    pub fn set(&mut self, row: u32, column: u32, value: E) -> bool {
-        let Some(index) = self.index(row, column) else {
-            return false;
-        };
-        if let Some(entry) = self.entries.get_mut(index) {
-            *entry = value;
+    // The place of the entry, or none where the row or the column lies outside.
+    pub fn entry_mut(&mut self, row: u32, column: u32) -> Option<&mut E> {
+        self.rows.get_mut(row as usize)?.get_mut(column as usize)
+    }
+
+    // The entry, or zero where there is none.
+    pub fn or_zero(&self, row: u32, column: u32) -> E {
+        self.entry(row, column).unwrap_or(E::zero())
+    }
+
+    // Makes all entries zero.
+    pub fn clear(&mut self) {
+        for row in self.rows.iter_mut() {
+            for entry in row.iter_mut() {
+                *entry = E::zero();
+            }
         }
-        true
+    }
+
+    // The same table once more.
+    pub fn copied(&self, heap: Global) -> Result<Grid<E>, AllocError> {
+        let mut rows = Vec::new(heap);
+        for row in self.rows.iter() {
+            rows.push(Vec::from_slice(heap, row.as_slice())?)?;
+        }
+        Ok(Grid {
+            shape: self.shape,
+            rows,
+        })
+    }
+
+    // The table with rows and columns exchanged.
+    pub fn transposed(&self, heap: Global) -> Result<Grid<E>, AllocError> {
+        let shape = Shape {
+            rows: self.shape.columns,
+            columns: self.shape.rows,
+        };
+        let mut rows = Vec::new(heap);
+        for column in 0..shape.rows {
+            let turned = (0..shape.columns).map(|row| self.or_zero(row, column));
+            rows.push(turned.collect(heap)?)?;
+        }
+        Ok(Grid { shape, rows })
     }
 }

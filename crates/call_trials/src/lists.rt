@@ -2,14 +2,24 @@
 use crate::model::Model;
 use crate::sample::Sample;
 use crate::source::Source;
-use calls::{Answer, Call};
+use calls::{Answer, Call, Table};
+use draws::Draws;
+use placement::Shape;
 use std::alloc::{AllocError, Global};
 
-// Calls, and the answers that the model gave to them one by one.
-#[derive(Drop)]
-pub struct Script<E> {
-    pub calls: Vec<Call<E>>,
-    pub answers: Vec<Answer<E>>,
+// A call, and the answer that the model gave to it.
+#[derive(Clone, Copy)]
+pub struct Told<E> {
+    pub call: Call<E>,
+    pub answer: Answer<E>,
+}
+
+impl<E: Sample> Told<E> {
+    // Makes the call on the model.
+    pub fn by(heap: Global, model: &mut Model<E>, call: Call<E>) -> Result<Told<E>, AllocError> {
+        let answer = model.make(heap, call)?;
+        Ok(Told { call, answer })
+    }
 }
 
 // A number of a table, most often one that there is.
@@ -22,7 +32,7 @@ fn random_table(source: &mut Source) -> u32 {
 }
 
 // A row or a column of a side: inside, just outside, or far outside.
-fn random_place(source: &mut Source, side: u32) -> u32 {
+fn random_index(source: &mut Source, side: u32) -> u32 {
     match source.below(40) {
         0 => u32::MAX,
         1..=4 => side,
@@ -30,16 +40,24 @@ fn random_place(source: &mut Source, side: u32) -> u32 {
     }
 }
 
+// Any place of any table: the table's number, the row and the column. A table that there is not has no rows.
+fn random_place<E: Sample>(source: &mut Source, model: &Model<E>) -> (u32, u32, u32) {
+    let number = random_table(source);
+    let shape = match Table::try_from(number) {
+        Ok(table) => model.table(table).shape(),
+        Err(_) => Shape {
+            rows: 0,
+            columns: 0,
+        },
+    };
+    let row = random_index(source, shape.rows);
+    let column = random_index(source, shape.columns);
+    (number, row, column)
+}
+
 // A tile order, most often a small one, which has the longest walk.
 fn random_order(source: &mut Source) -> u32 {
-    match source.below(12) {
-        0 => 12,
-        1 => 13,
-        2 => 3,
-        3 => 2,
-        4..=6 => 1,
-        _ => 0,
-    }
+    source.one_of(&[12, 13, 3, 2, 1, 1, 1, 0, 0, 0, 0, 0])
 }
 
 // How many tile products a step asks for.
@@ -54,34 +72,22 @@ fn random_count(source: &mut Source) -> u64 {
     }
 }
 
-// A put at any place of any table.
-fn random_put<E: Sample + Drop>(source: &mut Source, model: &Model<E>) -> Call<E> {
-    let table = random_table(source);
-    let shape = model.shape(table);
-    Call::Put {
-        table,
-        row: random_place(source, shape.rows),
-        column: random_place(source, shape.columns),
-        value: E::sample(source.next()),
-    }
-}
-
-// A get at any place of any table.
-fn random_get<E: Sample + Drop>(source: &mut Source, model: &Model<E>) -> Call<E> {
-    let table = random_table(source);
-    let shape = model.shape(table);
-    Call::Get {
-        table,
-        row: random_place(source, shape.rows),
-        column: random_place(source, shape.columns),
-    }
-}
-
 // A call that an idle trio has.
-fn random_idle_call<E: Sample + Drop>(source: &mut Source, model: &Model<E>) -> Call<E> {
+fn random_idle_call<E: Sample>(source: &mut Source, model: &Model<E>) -> Call<E> {
     match source.below(20) {
-        0..=6 => random_put(source, model),
-        7..=10 => random_get(source, model),
+        0..=6 => {
+            let (table, row, column) = random_place(source, model);
+            Call::Put {
+                table,
+                row,
+                column,
+                value: E::sample(source.next()),
+            }
+        }
+        7..=10 => {
+            let (table, row, column) = random_place(source, model);
+            Call::Get { table, row, column }
+        }
         11 => Call::Clear {
             table: random_table(source),
         },
@@ -108,7 +114,7 @@ fn random_run_call<E: Sample>(source: &mut Source) -> Call<E> {
 }
 
 // Any call, most often one that the trio has as it is.
-fn random_call<E: Sample + Drop>(source: &mut Source, model: &Model<E>) -> Call<E> {
+fn random_call<E: Sample>(source: &mut Source, model: &Model<E>) -> Call<E> {
     let is_offered = !source.one_in(8);
     if model.is_running() == is_offered {
         random_run_call(source)
@@ -118,31 +124,28 @@ fn random_call<E: Sample + Drop>(source: &mut Source, model: &Model<E>) -> Call<
 }
 
 // 100 to 300 calls, each made on the model as soon as it is drawn.
-pub fn random_script<E: Sample + Drop>(
+pub fn random_script<E: Sample>(
     heap: Global,
     source: &mut Source,
     model: &mut Model<E>,
-) -> Result<Script<E>, AllocError> {
-    let mut calls = Vec::new(heap);
-    let mut answers = Vec::new(heap);
+) -> Result<Vec<Told<E>>, AllocError> {
+    let mut script = Vec::new(heap);
     for _ in 0..source.below(201).saturating_add(100) {
         let call = random_call(source, model);
-        calls.push(call)?;
-        answers.push(model.make(heap, call)?)?;
+        script.push(Told::by(heap, model, call)?)?;
     }
-    Ok(Script { calls, answers })
+    Ok(script)
 }
 
 // The answers of the model to given calls.
-pub fn script_of<E: Sample + Drop>(
+pub fn script_of<E: Sample>(
     heap: Global,
     model: &mut Model<E>,
-    list: &[Call<E>],
-) -> Result<Script<E>, AllocError> {
-    let calls = Vec::from_slice(heap, list)?;
-    let mut answers = Vec::new(heap);
-    for call in list {
-        answers.push(model.make(heap, *call)?)?;
+    calls: &[Call<E>],
+) -> Result<Vec<Told<E>>, AllocError> {
+    let mut script = Vec::new(heap);
+    for call in calls {
+        script.push(Told::by(heap, model, *call)?)?;
     }
-    Ok(Script { calls, answers })
+    Ok(script)
 }

@@ -11,6 +11,7 @@ mod rounds;
 mod sample;
 mod sides;
 mod source;
+mod three;
 mod trial;
 mod triples;
 

@@ -2,9 +2,10 @@
 use calls::{Answer, Call};
 use masked::Refusal;
 use std::fmt;
+use tally::Tally;
 
 // How many calls of each sort were made.
-#[derive(Clone, Copy)]
+#[derive(Clone, Copy, Default)]
 struct Made {
     puts: u64,
     gets: u64,
@@ -18,45 +19,38 @@ struct Made {
 }
 
 impl Made {
-    // None yet.
-    fn new() -> Made {
-        Made {
-            puts: 0,
-            gets: 0,
-            clears: 0,
-            copies: 0,
-            turned: 0,
-            begins: 0,
-            steps: 0,
-            asked: 0,
-            ends: 0,
-        }
-    }
-
-    // Counts a call.
-    fn note<E: Copy>(&mut self, call: Call<E>) {
+    // The number to which a call belongs.
+    fn counter<E>(&mut self, call: &Call<E>) -> &mut u64 {
         match call {
-            Call::Put { .. } => self.puts = self.puts.saturating_add(1),
-            Call::Get { .. } => self.gets = self.gets.saturating_add(1),
-            Call::Clear { .. } => self.clears = self.clears.saturating_add(1),
+            Call::Put { .. } => &mut self.puts,
+            Call::Get { .. } => &mut self.gets,
+            Call::Clear { .. } => &mut self.clears,
             Call::Copy {
                 transposed: true,
                 ..
-            } => self.turned = self.turned.saturating_add(1),
-            Call::Copy { .. } => self.copies = self.copies.saturating_add(1),
-            Call::Begin { .. } => self.begins = self.begins.saturating_add(1),
-            Call::Step { .. } => self.steps = self.steps.saturating_add(1),
-            Call::Remaining => self.asked = self.asked.saturating_add(1),
-            Call::End => self.ends = self.ends.saturating_add(1),
+            } => &mut self.turned,
+            Call::Copy { .. } => &mut self.copies,
+            Call::Begin { .. } => &mut self.begins,
+            Call::Step { .. } => &mut self.steps,
+            Call::Remaining => &mut self.asked,
+            Call::End => &mut self.ends,
         }
     }
 }
 
 impl fmt::Display for Made {
     fn fmt<W: fmt::Write>(&self, f: &mut fmt::Formatter<W>) -> fmt::Result {
-        let (puts, gets, clears) = (self.puts, self.gets, self.clears);
-        let (copies, turned) = (self.copies, self.turned);
-        let (begins, steps, asked, ends) = (self.begins, self.steps, self.asked, self.ends);
+        let Made {
+            puts,
+            gets,
+            clears,
+            copies,
+            turned,
+            begins,
+            steps,
+            asked,
+            ends,
+        } = *self;
         write!(
             f,
             "put {puts}, get {gets}, clear {clears}, copy {copies}, transposed {turned}, "
@@ -69,46 +63,42 @@ impl fmt::Display for Made {
 }
 
 // How many calls were declined, and why.
-#[derive(Clone, Copy)]
+#[derive(Clone, Copy, Default)]
 struct Declined {
     tables: u64,
     stores: u64,
     places: u64,
     shapes: u64,
     orders: u64,
+    others: u64,
     not_offered: u64,
 }
 
 impl Declined {
-    // None yet.
-    fn new() -> Declined {
-        Declined {
-            tables: 0,
-            stores: 0,
-            places: 0,
-            shapes: 0,
-            orders: 0,
-            not_offered: 0,
-        }
-    }
-
-    // Counts a refusal.
-    fn note(&mut self, refusal: Refusal) {
+    // The number to which a refusal belongs. No call is declined for another reason, so those are not printed.
+    fn counter(&mut self, refusal: Refusal) -> &mut u64 {
         match refusal {
-            Refusal::Table => self.tables = self.tables.saturating_add(1),
-            Refusal::Store => self.stores = self.stores.saturating_add(1),
-            Refusal::Outside => self.places = self.places.saturating_add(1),
-            Refusal::Mismatch => self.shapes = self.shapes.saturating_add(1),
-            Refusal::TileOrder => self.orders = self.orders.saturating_add(1),
-            _ => {}
+            Refusal::Table => &mut self.tables,
+            Refusal::Store => &mut self.stores,
+            Refusal::Outside => &mut self.places,
+            Refusal::Mismatch => &mut self.shapes,
+            Refusal::TileOrder => &mut self.orders,
+            _ => &mut self.others,
         }
     }
 }
 
 impl fmt::Display for Declined {
     fn fmt<W: fmt::Write>(&self, f: &mut fmt::Formatter<W>) -> fmt::Result {
-        let (tables, stores, places) = (self.tables, self.stores, self.places);
-        let (shapes, orders, not_offered) = (self.shapes, self.orders, self.not_offered);
+        let Declined {
+            tables,
+            stores,
+            places,
+            shapes,
+            orders,
+            others: _,
+            not_offered,
+        } = *self;
         write!(
             f,
             "15 {tables}, 16 {stores}, 17 {places}, 18 {shapes}, 19 {orders}; "
@@ -117,12 +107,16 @@ impl fmt::Display for Declined {
     }
 }
 
+// Counts one thing more.
+fn count(counter: &mut u64) {
+    *counter = counter.saturating_add(1);
+}
+
 // How many lists were tried and how many agreed, the first round that did not, and what their calls were told.
 #[derive(Clone, Copy)]
 pub struct Report {
     seed: u64,
-    lists: u32,
-    agree: u32,
+    lists: Tally,
     first_difference: Option<u32>,
     made: Made,
     declined: Declined,
@@ -134,34 +128,29 @@ impl Report {
     pub fn new(seed: u64) -> Report {
         Report {
             seed,
-            lists: 0,
-            agree: 0,
+            lists: Tally::new(),
             first_difference: None,
-            made: Made::new(),
-            declined: Declined::new(),
+            made: Made::default(),
+            declined: Declined::default(),
             finished: 0,
         }
     }
 
     // Counts a round.
     pub fn note_round(&mut self, round: u32, is_same: bool) {
-        self.lists = self.lists.saturating_add(1);
-        if is_same {
-            self.agree = self.agree.saturating_add(1);
-        } else if self.first_difference.is_none() {
-            self.first_difference = Some(round);
+        self.lists.note(is_same);
+        if !is_same {
+            self.first_difference = self.first_difference.or(Some(round));
         }
     }
 
     // Counts a call by its answer.
-    pub fn note_call<E: Copy>(&mut self, call: Call<E>, answer: Answer<E>) {
-        match answer {
-            Answer::Refused(refusal) => self.declined.note(refusal),
-            Answer::NotOffered => {
-                self.declined.not_offered = self.declined.not_offered.saturating_add(1)
-            }
-            _ => self.made.note(call),
-        }
+    pub fn note_call<E>(&mut self, call: &Call<E>, answer: &Answer<E>) {
+        count(match answer {
+            Answer::Refused(refusal) => self.declined.counter(*refusal),
+            Answer::NotOffered => &mut self.declined.not_offered,
+            _ => self.made.counter(call),
+        });
     }
 
     // Counts runs that were finished.
@@ -172,11 +161,16 @@ impl Report {
 
 impl fmt::Display for Report {
     fn fmt<W: fmt::Write>(&self, f: &mut fmt::Formatter<W>) -> fmt::Result {
-        let (lists, agree, finished) = (self.lists, self.agree, self.finished);
-        let (made, declined) = (self.made, self.declined);
-        writeln!(f, "{agree} of {lists} agree")?;
-        if let Some(round) = self.first_difference {
-            let seed = self.seed;
+        let Report {
+            seed,
+            lists,
+            first_difference,
+            made,
+            declined,
+            finished,
+        } = *self;
+        writeln!(f, "{lists} agree")?;
+        if let Some(round) = first_difference {
             writeln!(f, "  the first that differs: seed {seed}, round {round}")?;
         }
         writeln!(f, "  made: {made}; runs finished: {finished}")?;

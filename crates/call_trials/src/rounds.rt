@@ -2,9 +2,12 @@
 use crate::lists::random_script;
 use crate::report::Report;
 use crate::sample::Sample;
-use crate::sides::{SORTS, layouts_of};
+use crate::sides::{Sort, layouts_of};
 use crate::source::Source;
+use crate::three::{TABLES, Three};
 use crate::trial::Trial;
+use calls::Table;
+use draws::Draws;
 use placement::Shape;
 use std::alloc::{AllocError, Global};
 
@@ -21,104 +24,73 @@ fn random_shape(source: &mut Source) -> Shape {
     }
 }
 
-// Shapes of left, right and result, most often such that they fit together, and often with equal sides, so that one table
-// can be copied to another.
-fn random_shapes(source: &mut Source) -> [Shape; 3] {
+// A side that is often the same as another, so that one table can be copied to another.
+fn near_side(source: &mut Source, other: u32) -> u32 {
+    if source.one_in(3) {
+        other
+    } else {
+        random_side(source)
+    }
+}
+
+// Shapes that most often fit together.
+fn random_shapes(source: &mut Source) -> Three<Shape> {
     let rows = random_side(source);
-    let columns = if source.one_in(3) {
-        rows
-    } else {
-        random_side(source)
+    let columns = near_side(source, rows);
+    let middle = near_side(source, rows);
+    let mut shapes = Three {
+        left: Shape {
+            rows,
+            columns: middle,
+        },
+        right: Shape {
+            rows: middle,
+            columns,
+        },
+        result: Shape { rows, columns },
     };
-    let middle = if source.one_in(3) {
-        rows
-    } else {
-        random_side(source)
-    };
-    let left = Shape {
-        rows,
-        columns: middle,
-    };
-    let right = Shape {
-        rows: middle,
-        columns,
-    };
-    let result = Shape { rows, columns };
     match source.below(24) {
-        0 => [random_shape(source), right, result],
-        1 => [left, random_shape(source), result],
-        2 => [left, right, random_shape(source)],
-        _ => [left, right, result],
+        0 => shapes.left = random_shape(source),
+        1 => shapes.right = random_shape(source),
+        2 => shapes.result = random_shape(source),
+        _ => {}
     }
+    shapes
 }
 
-// The sorts of the placements of three tables.
-fn random_sorts(source: &mut Source) -> [u32; 3] {
-    [
-        source.below(SORTS),
-        source.below(SORTS),
-        source.below(SORTS),
-    ]
-}
-
-// A sort of placement other than the given one.
-fn other_than(source: &mut Source, sort: u32) -> u32 {
-    let more = source.below(SORTS - 1).saturating_add(1);
-    sort.saturating_add(more) % SORTS
-}
-
-// For each table another sort than the given one.
-fn others_than(source: &mut Source, sorts: [u32; 3]) -> [u32; 3] {
-    [
-        other_than(source, sorts[0]),
-        other_than(source, sorts[1]),
-        other_than(source, sorts[2]),
-    ]
-}
-
-// The number of the table whose store is too short in a round, most often 3, which is none.
-fn random_short(source: &mut Source) -> u32 {
+// The table whose store is too short in a round, most often none.
+fn random_short(source: &mut Source) -> Option<Table> {
     if source.one_in(10) {
-        source.below(3)
+        Some(source.one_of(&TABLES))
     } else {
-        3
+        None
     }
 }
 
-// Whether both trios do as the model does at a random list of calls.
-fn is_same<E: Sample + Drop>(
-    heap: Global,
-    source: &mut Source,
-    mut trial: Trial<E>,
-    report: &mut Report,
-) -> Result<bool, AllocError> {
-    let script = random_script(heap, source, &mut trial.model)?;
-    trial.count(&script, report);
-    trial.agrees(heap, &script)
-}
-
-// One round: whether all agreed.
-fn one_round<E: Sample + Drop>(
+// One round: whether both trios do as the model does at a random list of calls.
+fn one_round<E: Sample>(
     heap: Global,
     source: &mut Source,
     report: &mut Report,
 ) -> Result<bool, AllocError> {
     let shapes = random_shapes(source);
-    let sorts = random_sorts(source);
-    let other_sorts = others_than(source, sorts);
-    let Some(layouts) = layouts_of(source, sorts, shapes) else {
+    let sorts = Three::each(|_| Sort::random(source));
+    let other_sorts = Three::each(|table| sorts.of(table).other(source));
+    let Ok(layouts) = layouts_of(source, &sorts, &shapes) else {
         return Ok(false);
     };
-    let Some(others) = layouts_of(source, other_sorts, shapes) else {
+    let Ok(others) = layouts_of(source, &other_sorts, &shapes) else {
         return Ok(false);
     };
     let short = random_short(source);
-    let trial: Trial<E> = Trial::new(heap, source, shapes, layouts, others, short)?;
-    is_same(heap, source, trial, report)
+    let mut trial: Trial<E> = Trial::new(heap, source, &shapes, &layouts, &others, short)?;
+    let script = random_script(heap, source, &mut trial.model)?;
+    trial.count(script.as_slice(), report);
+    trial.agrees(heap, script.as_slice())
 }
 
 // A thousand rounds of one kind.
-pub fn random_rounds<E: Sample + Drop>(heap: Global, seed: u64) -> Result<Report, AllocError> {
+pub fn random_rounds<E: Sample>(heap: Global, seed: u64) -> Result<Report, AllocError> {
     let mut report = Report::new(seed);
     for round in 0..1_000u32 {
         let mut source = Source::new(seed, round);

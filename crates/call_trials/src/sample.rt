@@ -1,22 +1,17 @@
 // Elements of every kind for a trial.
+use crate::source::Source;
+use draws::Draws;
 use kinds::{Connection, Count, Kind, TravelTime};
+use std::alloc::{AllocError, Global};
 
-// How a trial makes an element, and looks at it.
-pub trait Sample: Kind + Copy {
-    // An element for any number.
+// How a trial makes an element of any number.
+pub trait Sample: Kind + Copy + Drop + PartialEq {
     fn sample(n: u32) -> Self;
-
-    // The element as a number: two are the same where their numbers are.
-    fn plain(self) -> u32;
 }
 
 impl Sample for Count {
     fn sample(n: u32) -> Count {
         Count::new(n)
-    }
-
-    fn plain(self) -> u32 {
-        self.value
     }
 }
 
@@ -29,18 +24,24 @@ impl Sample for TravelTime {
             _ => TravelTime::new(n % 1000),
         }
     }
-
-    fn plain(self) -> u32 {
-        self.value
-    }
 }
 
 impl Sample for Connection {
     fn sample(n: u32) -> Connection {
         Connection::new(n % 4 == 0)
     }
+}
 
-    fn plain(self) -> u32 {
-        u32::from(self.linked)
+// A list of random elements. It is a loop, since a closure whose result is of a type parameter that nothing it is given
+// names gets no proof yet.
+pub fn samples<E: Sample>(
+    heap: Global,
+    source: &mut Source,
+    length: u32,
+) -> Result<Vec<E>, AllocError> {
+    let mut list = Vec::new(heap);
+    for _ in 0..length {
+        list.push(E::sample(source.next()))?;
     }
+    Ok(list)
 }

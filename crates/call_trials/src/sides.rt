@@ -1,49 +1,85 @@
 // Tables in stores, over placements of all sorts.
+use crate::grid::Grid;
+use crate::lists::Told;
 use crate::model::Model;
-use crate::sample::Sample;
+use crate::sample::{Sample, samples};
 use crate::source::Source;
-use calls::Call;
+use crate::three::{TABLES, Three};
+use calls::{Call, Table};
+use draws::Draws;
 use layouts::Layout;
 use makers::{from_column_stride, from_row_stride};
+use masked::Refusal;
 use orders::named;
 use placement::{Placement, Shape};
 use promise::{Outcomes, replay_both};
 use std::alloc::{AllocError, Global};
 use trio::Idle;
 
-// How many sorts of placement there are.
-pub const SORTS: u32 = 7;
+// The sorts of placement: the five named orders, and strides longer than the side.
+#[derive(Clone, Copy, PartialEq, Eq, Debug)]
+pub enum Sort {
+    Rows,
+    Columns,
+    Zigzag,
+    Slanted,
+    Blocks,
+    RowStride,
+    ColumnStride,
+}
 
-// A placement of a sort: the five named orders, or a stride longer than the side.
-fn layout_of(source: &mut Source, sort: u32, shape: Shape) -> Option<Layout> {
-    let more = source.below(3).saturating_add(1);
-    let layout = match sort {
-        0 => named('R', shape, 0),
-        1 => named('C', shape, 0),
-        2 => named('Z', shape, 0),
-        3 => named('N', shape, 0),
-        4 => named('H', shape, more),
-        5 => from_row_stride(shape, shape.columns.saturating_add(more)),
-        _ => from_column_stride(shape, shape.rows.saturating_add(more)),
-    };
-    layout.ok()
+impl Sort {
+    const ALL: [Sort; 7] = [
+        Sort::Rows,
+        Sort::Columns,
+        Sort::Zigzag,
+        Sort::Slanted,
+        Sort::Blocks,
+        Sort::RowStride,
+        Sort::ColumnStride,
+    ];
+
+    pub fn random(source: &mut Source) -> Sort {
+        source.one_of(&Sort::ALL)
+    }
+
+    // Another sort than this one.
+    pub fn other(self, source: &mut Source) -> Sort {
+        let more = source.below(6) as usize + 1;
+        Sort::ALL[(self as usize + more) % 7]
+    }
+
+    // A placement of the sort.
+    fn layout(self, source: &mut Source, shape: Shape) -> Result<Layout, Refusal> {
+        let more = source.below(3).saturating_add(1);
+        match self {
+            Sort::Rows => named('R', shape, 0),
+            Sort::Columns => named('C', shape, 0),
+            Sort::Zigzag => named('Z', shape, 0),
+            Sort::Slanted => named('N', shape, 0),
+            Sort::Blocks => named('H', shape, more),
+            Sort::RowStride => from_row_stride(shape, shape.columns.saturating_add(more)),
+            Sort::ColumnStride => from_column_stride(shape, shape.rows.saturating_add(more)),
+        }
+    }
 }
 
 // Placements of the given sorts for three tables.
-pub fn layouts_of(source: &mut Source, sorts: [u32; 3], shapes: [Shape; 3]) -> Option<[Layout; 3]> {
-    let left = layout_of(source, sorts[0], shapes[0])?;
-    let right = layout_of(source, sorts[1], shapes[1])?;
-    let result = layout_of(source, sorts[2], shapes[2])?;
-    Some([left, right, result])
+pub fn layouts_of(
+    source: &mut Source,
+    sorts: &Three<Sort>,
+    shapes: &Three<Shape>,
+) -> Result<Three<Layout>, Refusal> {
+    Three::try_each(|table| sorts.of(table).layout(source, *shapes.of(table)))
 }
 
-// A table of a trio in its store, with all cells as they were before the first call.
+// A table of a trio in its store, with all cells that no entry owns as they were before the first call.
 #[derive(Drop)]
-pub struct Stored<E> {
-    number: u32,
+struct Stored<E> {
+    table: Table,
     layout: Layout,
     store: Vec<E>,
-    before: Vec<E>,
+    idle: Vec<(u32, E)>,
 }
 
 // The length of a store: some cells more than the span, or one less.
@@ -55,26 +91,21 @@ fn random_length(source: &mut Source, layout: &Layout, is_short: bool) -> u32 {
     }
 }
 
-// Writes all entries of a table of the model into a store, as far as it goes.
-fn write_entries<E: Sample + Drop>(
-    layout: &Layout,
-    store: &mut Vec<E>,
-    model: &Model<E>,
-    number: u32,
-) {
+// Writes all entries of a table into a store, as far as it goes.
+fn write_entries<E: Sample>(layout: &Layout, store: &mut [E], grid: &Grid<E>) {
     let shape = layout.shape();
     for row in 0..shape.rows {
         for column in 0..shape.columns {
-            if let Ok(cell) = layout.address(row, column) {
-                if let Some(place) = store.get_mut(cell as usize) {
-                    *place = model.entry(number, row, column);
-                }
+            if let Ok(cell) = layout.address(row, column)
+                && let Some(place) = store.get_mut(cell as usize)
+            {
+                *place = grid.or_zero(row, column);
             }
         }
     }
 }
 
-impl<E: Sample + Drop> Stored<E> {
+impl<E: Sample> Stored<E> {
     // A table of the model in a store. All other cells hold something too.
     fn new(
         heap: Global,
@@ -82,19 +113,20 @@ impl<E: Sample + Drop> Stored<E> {
         layout: Layout,
         is_short: bool,
         model: &Model<E>,
-        number: u32,
+        table: Table,
     ) -> Result<Stored<E>, AllocError> {
-        let mut store = Vec::new(heap);
-        for _ in 0..random_length(source, &layout, is_short) {
-            store.push(E::sample(source.next()))?;
-        }
-        write_entries(&layout, &mut store, model, number);
-        let before = Vec::from_slice(heap, store.as_slice())?;
+        let length = random_length(source, &layout, is_short);
+        let mut store: Vec<E> = samples(heap, source, length)?;
+        write_entries(&layout, store.as_mut_slice(), model.table(table));
+        let idle = (0..length)
+            .zip(store.iter().copied())
+            .filter(|(cell, _)| layout.owner(*cell).is_none())
+            .collect(heap)?;
         Ok(Stored {
-            number,
+            table,
             layout,
             store,
-            before,
+            idle,
         })
     }
 
@@ -104,7 +136,7 @@ impl<E: Sample + Drop> Stored<E> {
             return false;
         };
         match self.store.get(cell as usize) {
-            Some(entry) => entry.plain() == model.entry(self.number, row, column).plain(),
+            Some(entry) => *entry == model.table(self.table).or_zero(row, column),
             None => !model.is_stored(),
         }
     }
@@ -112,86 +144,77 @@ impl<E: Sample + Drop> Stored<E> {
     // Whether all entries are the model's.
     fn has_entries(&self, model: &Model<E>) -> bool {
         let shape = self.layout.shape();
-        let mut is_same = shape == model.shape(self.number);
-        for row in 0..shape.rows {
-            for column in 0..shape.columns {
-                is_same = is_same && self.has_entry(model, row, column);
-            }
-        }
-        is_same
+        shape == model.table(self.table).shape()
+            && (0..shape.rows).all(|row| (0..shape.columns).all(|column| self.has_entry(
+                model, row, column,
+            )))
     }
 
     // Whether all cells that no entry owns are as they were.
     fn keeps_idle_cells(&self) -> bool {
-        let mut is_same = self.store.len() == self.before.len();
-        for (cell, (old, new)) in self.before.iter().zip(self.store.iter()).enumerate() {
-            let is_owned = self.layout.owner((cell % 4_294_967_296) as u32).is_some();
-            is_same = is_same && (is_owned || old.plain() == new.plain());
-        }
-        is_same
+        self.idle
+            .iter()
+            .all(|(cell, old)| self.store.get(*cell as usize) == Some(old))
     }
 }
 
 // The three tables of a trio in their stores.
 #[derive(Drop)]
 pub struct Side<E> {
-    left: Stored<E>,
-    right: Stored<E>,
-    result: Stored<E>,
+    tables: Three<Stored<E>>,
 }
 
-impl<E: Sample + Drop> Side<E> {
-    // The tables of the model over three placements. The store of the table with the given number is too short; 3 names none.
+impl<E: Sample> Side<E> {
+    // The tables of the model over three placements. The store of one of them may be too short.
     pub fn new(
         heap: Global,
         source: &mut Source,
-        layouts: [Layout; 3],
-        short: u32,
+        layouts: &Three<Layout>,
+        short: Option<Table>,
         model: &Model<E>,
     ) -> Result<Side<E>, AllocError> {
-        let [left, right, result] = layouts;
-        Ok(Side {
-            left: Stored::new(heap, source, left, short == 0, model, 0)?,
-            right: Stored::new(heap, source, right, short == 1, model, 1)?,
-            result: Stored::new(heap, source, result, short == 2, model, 2)?,
-        })
+        let tables = Three::try_each(|table| {
+            let is_short = short == Some(table);
+            Stored::new(heap, source, *layouts.of(table), is_short, model, table)
+        })?;
+        Ok(Side { tables })
+    }
+
+    // The tables as a trio.
+    fn trio(&self) -> Idle<Layout, Layout, Layout> {
+        let Three {
+            left,
+            right,
+            result,
+        } = &self.tables;
+        Idle::open(left.layout, right.layout, result.layout)
     }
 
     // Whether all entries are the model's, and all other cells as they were.
     pub fn agrees(&self, model: &Model<E>) -> bool {
-        let has_entries = self.left.has_entries(model)
-            && self.right.has_entries(model)
-            && self.result.has_entries(model);
-        let keeps_idle_cells = self.left.keeps_idle_cells()
-            && self.right.keeps_idle_cells()
-            && self.result.keeps_idle_cells();
-        has_entries && keeps_idle_cells
+        TABLES.iter().map(|table| self.tables.of(*table)).all(|stored| stored.has_entries(model)
+            && stored.keeps_idle_cells())
     }
 }
 
 // Makes a list of calls on two trios.
-pub fn replayed<E: Sample + Drop>(
+pub fn replayed<E: Sample>(
     heap: Global,
     first: &mut Side<E>,
     second: &mut Side<E>,
-    calls: &[Call<E>],
+    script: &[Told<E>],
 ) -> Result<Outcomes<Layout, Layout, Layout, Layout, Layout, Layout, E>, AllocError> {
-    let trio = Idle::open(first.left.layout, first.right.layout, first.result.layout);
-    let other = Idle::open(
-        second.left.layout,
-        second.right.layout,
-        second.result.layout,
-    );
+    let calls: Vec<Call<E>> = script.iter().map(|told| told.call).collect(heap)?;
     replay_both(
         heap,
-        trio,
-        first.left.store.as_mut_slice(),
-        first.right.store.as_mut_slice(),
-        first.result.store.as_mut_slice(),
-        other,
-        second.left.store.as_mut_slice(),
-        second.right.store.as_mut_slice(),
-        second.result.store.as_mut_slice(),
-        calls,
+        first.trio(),
+        first.tables.left.store.as_mut_slice(),
+        first.tables.right.store.as_mut_slice(),
+        first.tables.result.store.as_mut_slice(),
+        second.trio(),
+        second.tables.left.store.as_mut_slice(),
+        second.tables.right.store.as_mut_slice(),
+        second.tables.result.store.as_mut_slice(),
+        calls.as_slice(),
     )
 }

@@ -1,4 +1,6 @@
 // Numbers that look random and are the same at every run: steps of one odd number, each stirred by two products.
+use draws::Draws;
+
 #[derive(Clone, Copy)]
 pub struct Source {
     state: u64,
@@ -11,24 +13,14 @@ impl Source {
             state: seed.wrapping_add(u64::from(round).wrapping_mul(0xd1b5_4a32_d192_ed03)),
         }
     }
+}
 
-    // The next 32 bits of the sequence.
-    pub fn next(&mut self) -> u32 {
+impl Draws for Source {
+    fn next(&mut self) -> u32 {
         self.state = self.state.wrapping_add(0x9e37_79b9_7f4a_7c15);
         let mut x = self.state;
         x = (x ^ (x >> 30)).wrapping_mul(0xbf58_476d_1ce4_e5b9);
         x = (x ^ (x >> 27)).wrapping_mul(0x94d0_49bb_1331_11eb);
         (x >> 32) as u32
-    }
-
-    // A number below the limit, which is not 0.
-    pub fn below(&mut self, limit: u32) -> u32 {
-        let n = self.next();
-        n.checked_rem(limit).unwrap_or(0)
-    }
-
-    // True once in so many times.
-    pub fn one_in(&mut self, times: u32) -> bool {
-        self.below(times) == 0
     }
 }

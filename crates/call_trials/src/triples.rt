@@ -17,40 +17,54 @@ pub struct Sides {
     pub middle: u32,
 }
 
-// The children of a walk in their order: the top bits of row, column and middle, and whether the child is walked forward.
-const CHILDREN: [(u32, u32, u32, bool); 8] = [
-    (0, 0, 0, true),
-    (0, 0, 1, false),
-    (0, 1, 1, true),
-    (0, 1, 0, false),
-    (1, 1, 0, true),
-    (1, 1, 1, false),
-    (1, 0, 1, true),
-    (1, 0, 0, false),
-];
+// A child of a walk: the top bits of row, column and middle, and whether the child is walked forward.
+#[derive(Clone, Copy)]
+struct Child {
+    top: Spot,
+    is_forward: bool,
+}
+
+fn walked(row: u32, column: u32, middle: u32, is_forward: bool) -> Child {
+    let top = Spot {
+        row,
+        column,
+        middle,
+    };
+    Child { top, is_forward }
+}
+
+// The children of a walk in their order.
+fn children() -> [Child; 8] {
+    [
+        walked(0, 0, 0, true),
+        walked(0, 0, 1, false),
+        walked(0, 1, 1, true),
+        walked(0, 1, 0, false),
+        walked(1, 1, 0, true),
+        walked(1, 1, 1, false),
+        walked(1, 0, 1, true),
+        walked(1, 0, 0, false),
+    ]
+}
 
 // A triple with top bits put before it, each worth the given number.
-fn beneath(spot: Spot, top: (u32, u32, u32), worth: u32) -> Spot {
+fn beneath(spot: Spot, top: Spot, worth: u32) -> Spot {
     Spot {
-        row: spot.row.wrapping_add(top.0.wrapping_mul(worth)),
-        column: spot.column.wrapping_add(top.1.wrapping_mul(worth)),
-        middle: spot.middle.wrapping_add(top.2.wrapping_mul(worth)),
+        row: spot.row.wrapping_add(top.row.wrapping_mul(worth)),
+        column: spot.column.wrapping_add(top.column.wrapping_mul(worth)),
+        middle: spot.middle.wrapping_add(top.middle.wrapping_mul(worth)),
     }
 }
 
 // The forward walk one height above the given one, whose sides are the given number long.
 fn above(heap: Global, walk: &[Spot], worth: u32) -> Result<Vec<Spot>, AllocError> {
     let mut taller = Vec::new(heap);
-    for (row, column, middle, is_forward) in CHILDREN {
-        let top = (row, column, middle);
+    for Child { top, is_forward } in children() {
+        let place = |spot: &Spot| beneath(*spot, top, worth);
         if is_forward {
-            for spot in walk.iter() {
-                taller.push(beneath(*spot, top, worth))?;
-            }
+            taller.extend(walk.iter().map(place))?;
         } else {
-            for spot in walk.iter().rev() {
-                taller.push(beneath(*spot, top, worth))?;
-            }
+            taller.extend(walk.iter().rev().map(place))?;
         }
     }
     Ok(taller)
@@ -59,15 +73,9 @@ fn above(heap: Global, walk: &[Spot], worth: u32) -> Result<Vec<Spot>, AllocErro
 // How often a side has to be doubled, from 1 on, to be at least as long as the longest of the three.
 fn doublings(sides: Sides) -> u32 {
     let longest = sides.rows.max(sides.columns).max(sides.middle);
-    let mut length = 1u32;
-    let mut count = 0u32;
-    for _ in 0..12 {
-        if length < longest {
-            length = length.saturating_mul(2);
-            count = count.saturating_add(1);
-        }
-    }
-    count
+    (0..12u32)
+        .find(|count| 1 << *count >= longest)
+        .unwrap_or(12)
 }
 
 // Whether a triple begins inside.
@@ -84,17 +92,11 @@ pub fn walk_of(heap: Global, sides: Sides, order: u32) -> Result<Vec<Spot>, Allo
         column: 0,
         middle: 0,
     };
-    let mut whole = Vec::from_slice(heap, &[first])?;
+    let mut walk = Vec::from_slice(heap, &[first])?;
     for height in 0..doublings(sides).saturating_sub(order) {
-        let worth = 1u32.wrapping_shl(height);
-        whole = above(heap, whole.as_slice(), worth)?;
+        walk = above(heap, walk.as_slice(), 1u32.wrapping_shl(height))?;
     }
     let tile = 1u32.wrapping_shl(order);
-    let mut walk = Vec::new(heap);
-    for spot in whole.iter() {
-        if is_inside(*spot, sides, tile) {
-            walk.push(*spot)?;
-        }
-    }
+    walk.retain(|spot| is_inside(*spot, sides, tile));
     Ok(walk)
 }
