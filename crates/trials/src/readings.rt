@@ -1,187 +1,168 @@
-// The reader against a second reading of the format, which keeps no rule of the first: it gathers the groups of a number
-// with their offsets first, and then judges the numbers by their place in the row.
-use crate::source::Source;
-use crate::tally::Tally;
-use descriptor::{LONGEST, read, write};
+// The reader against a second reading of the format, which keeps no rule of the first: it gathers the bytes of a number
+// with their place first, and then judges the number by its place in the row.
+use crate::source::{LETTERS, Source};
+use descriptor::{Fault, LONGEST, read, write};
+use draws::Draws;
+use layouts::Layout;
+use masked::Refusal;
 use orders::named;
 use placement::Shape;
-
-// A verdict: the number of the refusal and its place, or 0 and 0 where the input is accepted.
-#[derive(Clone, Copy, PartialEq, Eq, Debug)]
-struct Verdict {
-    number: u8,
-    place: usize,
-}
-
-fn refused(number: u8, place: usize) -> Verdict {
-    Verdict { number, place }
-}
+use std::alloc::{AllocError, Global};
+use tally::Tally;
 
 // How many one-bits, counted one after another.
-fn one_bits(mut n: u32) -> u32 {
-    let mut count = 0u32;
-    for _ in 0..32 {
-        count = count.wrapping_add(n % 2);
-        n /= 2;
-    }
-    count
+fn one_bits(n: u32) -> usize {
+    (0..32u32).filter(|k| n.wrapping_shr(*k) % 2 == 1).count()
 }
 
 // How many binary digits, counted one after another.
-fn binary_digits(mut n: u32) -> u32 {
-    let mut count = 0u32;
-    for _ in 0..32 {
-        if n > 0 {
-            count = count.wrapping_add(1);
-        }
-        n /= 2;
-    }
-    count
+fn binary_digits(n: u32) -> usize {
+    (0..32u32).filter(|k| n.wrapping_shr(*k) > 0).count()
 }
 
-// The length of the number at the place in bytes, 0 where it does not end.
-fn length_at(input: &[u8], at: usize) -> usize {
-    let mut length = 0usize;
-    for (k, byte) in input.iter().skip(at).take(4).enumerate() {
-        if length == 0 && *byte < 128 {
-            length = k.saturating_add(1);
-        }
-    }
-    length
+// A number of a descriptor, and the place of its first byte.
+#[derive(Clone, Copy)]
+struct Number {
+    value: u32,
+    place: usize,
 }
 
-// What the bytes of a number come to, the last byte first.
-fn worth(input: &[u8], at: usize, length: usize) -> u32 {
-    let mut value = 0u32;
-    for k in 0..length {
-        let from_end = length.saturating_sub(k).saturating_sub(1);
-        let byte = input.get(at.saturating_add(from_end)).copied().unwrap_or(0);
-        value = value.wrapping_mul(128).wrapping_add(u32::from(byte % 128));
-    }
-    value
-}
-
-// The fault of a number as such, if it has one.
-fn form_fault(input: &[u8], at: usize, length: usize) -> Option<Verdict> {
-    if length == 0 {
-        let left = input.len().saturating_sub(at);
-        return if left < 4 {
-            Some(refused(1, input.len()))
+impl Number {
+    // Refuses the number, unless a rule of the format is kept.
+    fn must(self, is_kept: bool, refusal: Refusal) -> Result<(), Fault> {
+        if is_kept {
+            Ok(())
         } else {
-            Some(refused(2, at))
+            Err(Fault {
+                refusal,
+                place: self.place,
+            })
+        }
+    }
+}
+
+// A row of numbers, and the place of the next.
+#[derive(Drop)]
+struct Numbers<'a> {
+    input: &'a [u8],
+    place: usize,
+}
+
+impl<'a> Numbers<'a> {
+    // What is left of the input.
+    fn rest(&self) -> &'a [u8] {
+        let input = self.input;
+        input.get(self.place..).unwrap_or(&[])
+    }
+
+    // How many bytes the next number has: it ends within four, at the first that is below 128.
+    fn length(&self) -> Result<usize, Fault> {
+        let rest = self.rest();
+        match rest.iter().take(4).position(|byte| *byte < 128) {
+            Some(last) => Ok(last.saturating_add(1)),
+            None if rest.len() < 4 => Err(Fault {
+                refusal: Refusal::Ended,
+                place: self.input.len(),
+            }),
+            None => Err(Fault {
+                refusal: Refusal::TooLong,
+                place: self.place,
+            }),
+        }
+    }
+
+    // The next number. What its bytes come to is taken from the last to the first.
+    fn next(&mut self) -> Result<Number, Fault> {
+        let length = self.length()?;
+        let bytes = self.rest().get(..length).unwrap_or(&[]);
+        let value = bytes.iter().rev().fold(0u32, |value, byte| {
+            value.wrapping_mul(128).wrapping_add(u32::from(byte % 128))
+        });
+        let is_shortest = length == 1 || bytes.last() != Some(&0);
+        let number = Number {
+            value,
+            place: self.place,
         };
+        number.must(is_shortest, Refusal::Padded)?;
+        self.place = self.place.saturating_add(length);
+        Ok(number)
     }
-    let last = input
-        .get(at.saturating_add(length).saturating_sub(1))
-        .copied()
-        .unwrap_or(0);
-    if length > 1 && last == 0 {
-        return Some(refused(3, at));
-    }
-    None
-}
 
-fn mask_fault(mask: u32, entries: u32, at: usize) -> Option<Verdict> {
-    if one_bits(mask) != binary_digits(entries.saturating_sub(1)) {
-        return Some(refused(6, at));
+    // The rows or the columns, which are told less one.
+    fn side(&mut self) -> Result<u32, Fault> {
+        let less_one = self.next()?;
+        less_one.must(less_one.value <= 4095, Refusal::Shape)?;
+        Ok(less_one.value.wrapping_add(1))
     }
-    if mask > 0x00ff_ffff {
-        return Some(refused(7, at));
-    }
-    None
-}
 
-fn stride_fault(stride: u32, near: u32, strided: u32, at: usize) -> Option<Verdict> {
-    if stride < near || stride >= 4096 {
-        return Some(refused(9, at));
+    // The mask of a side.
+    fn mask(&mut self, entries: u32) -> Result<Number, Fault> {
+        let mask = self.next()?;
+        let digits = binary_digits(entries.saturating_sub(1));
+        mask.must(one_bits(mask.value) == digits, Refusal::MaskBits)?;
+        mask.must(mask.value <= 0x00ff_ffff, Refusal::MaskPosition)?;
+        Ok(mask)
     }
-    if one_bits(stride) == 1 || strided == 1 {
-        return Some(refused(10, at));
-    }
-    None
-}
 
-// The fault of a number by its place in the row: the kind, rows less one, columns less one, and then masks or a stride.
-fn number_fault(numbers: &[u32; 5], index: usize, at: usize) -> Option<Verdict> {
-    let kind = numbers[0];
-    let rows = numbers[1].wrapping_add(1);
-    let columns = numbers[2].wrapping_add(1);
-    match index {
-        0 => { if kind > 2 { Some(refused(4, at)) } else { None } }
-        1 => {
-            if numbers[1] > 4095 {
-                Some(refused(5, at))
-            } else {
-                None
-            }
-        }
-        2 => {
-            if numbers[2] > 4095 {
-                Some(refused(5, at))
-            } else {
-                None
-            }
-        }
-        3 => match kind {
-            0 => mask_fault(numbers[3], rows, at),
-            1 => stride_fault(numbers[3], columns, rows, at),
-            _ => stride_fault(numbers[3], rows, columns, at),
-        },
-        _ => {
-            let fault = mask_fault(numbers[4], columns, at);
-            if fault.is_none() && numbers[3] & numbers[4] != 0 {
-                return Some(refused(8, at));
-            }
-            fault
-        }
+    // The stride, for the near side and the strided one.
+    fn stride(&mut self, near: u32, strided: u32) -> Result<(), Fault> {
+        let stride = self.next()?;
+        let is_long = stride.value >= near && stride.value < 4096;
+        stride.must(is_long, Refusal::Stride)?;
+        let is_masked = one_bits(stride.value) == 1 || strided == 1;
+        stride.must(!is_masked, Refusal::Uncanonical)
     }
 }
 
-fn judged(input: &[u8]) -> Verdict {
-    let mut numbers = [0u32; 5];
-    let mut at = 0usize;
-    for index in 0..5usize {
-        if index == 4 && numbers[0] != 0 {
-            continue;
+// What the second reading finds: the kind, rows less one, columns less one, and then two masks or a stride.
+fn judged(input: &[u8]) -> Result<(), Fault> {
+    let mut numbers = Numbers { input, place: 0 };
+    let kind = numbers.next()?;
+    kind.must(kind.value <= 2, Refusal::Kind)?;
+    let rows = numbers.side()?;
+    let columns = numbers.side()?;
+    match kind.value {
+        0 => {
+            let row_mask = numbers.mask(rows)?;
+            let column_mask = numbers.mask(columns)?;
+            let is_apart = row_mask.value & column_mask.value == 0;
+            column_mask.must(is_apart, Refusal::MaskOverlap)?;
         }
-        let length = length_at(input, at);
-        if let Some(fault) = form_fault(input, at, length) {
-            return fault;
-        }
-        numbers[index] = worth(input, at, length);
-        if let Some(fault) = number_fault(&numbers, index, at) {
-            return fault;
-        }
-        at = at.saturating_add(length);
+        1 => numbers.stride(columns, rows)?,
+        _ => numbers.stride(rows, columns)?,
     }
-    if at < input.len() {
-        return refused(11, at);
+    if numbers.place < input.len() {
+        return Err(Fault {
+            refusal: Refusal::Trailing,
+            place: numbers.place,
+        });
     }
-    refused(0, 0)
+    Ok(())
 }
 
-// The reader's verdict. What it accepts has to be written again byte for byte.
-fn told(input: &[u8]) -> Verdict {
+// Whether a layout is written as the very bytes that it was read from.
+fn is_written_as(layout: &Layout, input: &[u8]) -> bool {
+    let mut bytes = [0u8; LONGEST];
+    match write(layout, &mut bytes) {
+        Ok(length) => bytes.get(..length) == Some(input),
+        Err(_) => false,
+    }
+}
+
+// Whether the reader accepts a string. What it accepts has to be written again byte for byte.
+fn is_accepted(input: &[u8]) -> bool {
     match read(input) {
-        Ok(layout) => {
-            let mut bytes = [0u8; LONGEST];
-            match write(&layout, &mut bytes) {
-                Ok(len) => {
-                    if bytes.get(0..len) == Some(input) {
-                        refused(0, 0)
-                    } else {
-                        refused(255, len)
-                    }
-                }
-                Err(refusal) => refused(refusal.number(), 0),
-            }
-        }
-        Err(fault) => refused(fault.refusal.number(), fault.place),
+        Ok(layout) => is_written_as(&layout, input),
+        Err(_) => false,
     }
 }
 
+// Whether the reader finds what the second reading does.
 fn agrees(input: &[u8]) -> bool {
-    told(input) == judged(input)
+    match read(input) {
+        Ok(layout) => is_written_as(&layout, input) && judged(input).is_ok(),
+        Err(fault) => judged(input) == Err(fault),
+    }
 }
 
 // Every string of up to three bytes.
@@ -200,59 +181,78 @@ pub fn short_strings() -> Tally {
     tally
 }
 
-// Strings of up to fifteen bytes, many of them low, so that they come past the first numbers.
+// A byte, most often a low one, so that strings come past the first numbers.
+fn random_byte(source: &mut Source) -> u8 {
+    let limit = if source.one_in(4) { 256 } else { 16 };
+    source.below(limit) as u8
+}
+
+// Strings of up to fifteen bytes.
 pub fn random_strings() -> Tally {
     let mut tally = Tally::new();
     let mut source = Source::new(0x9e37_79b9_7f4a_7c15);
     for _ in 0..100_000u32 {
         let mut bytes = [0u8; 15];
         for byte in bytes.iter_mut() {
-            let high = source.below(4) == 0;
-            let limit = if high { 256 } else { 16 };
-            *byte = (source.below(limit) % 256) as u8;
+            *byte = random_byte(&mut source);
         }
-        let len = source.below(16) as usize;
-        tally.note(agrees(bytes.get(0..len).unwrap_or(&[])));
+        let length = source.below(16) as usize;
+        tally.note(agrees(&bytes[..length]));
     }
     tally
 }
 
-// Descriptors of named orders, each as it is, cut, prolonged, and with one byte changed.
-pub fn damaged_descriptors() -> Tally {
+// The layout of a named order of a shape, which is small half the time.
+fn random_layout(source: &mut Source) -> Result<Layout, Refusal> {
+    let letter = source.one_of(&LETTERS);
+    let limit = if source.one_in(2) { 8 } else { 4096 };
+    let shape = Shape {
+        rows: source.below(limit).saturating_add(1),
+        columns: source.below(limit).saturating_add(1),
+    };
+    let inner = if letter == 'H' { source.below(13) } else { 0 };
+    named(letter, shape, inner)
+}
+
+// The descriptor of such a layout, or none where it is declined.
+fn random_descriptor(heap: Global, source: &mut Source) -> Result<Option<Vec<u8>>, AllocError> {
+    let mut text = vec![in heap; 0u8; LONGEST]?;
+    let Ok(layout) = random_layout(source) else {
+        return Ok(None);
+    };
+    let Ok(length) = write(&layout, text.as_mut_slice()) else {
+        return Ok(None);
+    };
+    text.truncate(length);
+    Ok(Some(text))
+}
+
+// A descriptor as it is, cut, prolonged, and with one byte changed.
+fn damaged(source: &mut Source, mut text: Vec<u8>) -> Result<Tally, AllocError> {
+    let mut tally = Tally::new();
+    tally.note(is_accepted(text.as_slice()));
+    let place = source.below(14) as usize % text.len().max(1);
+    tally.note(agrees(text.get(..place).unwrap_or(&[])));
+    text.push(0)?;
+    tally.note(agrees(text.as_slice()));
+    let _ = text.pop();
+    let change = source.below(255) as u8;
+    if let Some(byte) = text.get_mut(place) {
+        *byte = byte.wrapping_add(change).wrapping_add(1);
+    }
+    tally.note(agrees(text.as_slice()));
+    Ok(tally)
+}
+
+// Descriptors of named orders, and what becomes of each when it is damaged.
+pub fn damaged_descriptors(heap: Global) -> Result<Tally, AllocError> {
     let mut tally = Tally::new();
     let mut source = Source::new(0x2545_f491_4f6c_dd1d);
     for _ in 0..20_000u32 {
-        let letter = match source.below(5) {
-            0 => 'R',
-            1 => 'C',
-            2 => 'Z',
-            3 => 'N',
-            _ => 'H',
-        };
-        let limit = if source.below(2) == 0 { 8 } else { 4096 };
-        let shape = Shape {
-            rows: source.below(limit).saturating_add(1),
-            columns: source.below(limit).saturating_add(1),
-        };
-        let inner = if letter == 'H' { source.below(13) } else { 0 };
-        let mut bytes = [0u8; 14];
-        let Ok(layout) = named(letter, shape, inner) else {
-            tally.note(false);
-            continue;
-        };
-        let Ok(len) = write(&layout, &mut bytes) else {
-            tally.note(false);
-            continue;
-        };
-        tally.note(told(bytes.get(0..len).unwrap_or(&[])) == refused(0, 0));
-        let short = source.below(14) as usize % len.max(1);
-        tally.note(agrees(bytes.get(0..short).unwrap_or(&[])));
-        tally.note(agrees(bytes.get(0..len.saturating_add(1)).unwrap_or(&[])));
-        let change = (source.below(255) % 255) as u8;
-        if let Some(byte) = bytes.get_mut(short) {
-            *byte = byte.wrapping_add(change).wrapping_add(1);
+        match random_descriptor(heap, &mut source)? {
+            Some(text) => tally = tally.and(damaged(&mut source, text)?),
+            None => tally.note(false),
         }
-        tally.note(agrees(bytes.get(0..len).unwrap_or(&[])));
     }
-    tally
+    Ok(tally)
 }
