@@ -12,10 +12,10 @@ pub struct Grid<E> {
 
 impl<E: Sample> Grid<E> {
     // A table of random entries.
-    pub fn random(heap: Global, source: &mut Source, shape: Shape) -> Result<Grid<E>, AllocError> {
-        let mut rows = Vec::new(heap);
+    pub fn random(source: &mut Source, shape: Shape) -> Result<Grid<E>, AllocError> {
+        let mut rows = Vec::new(source.heap);
         for _ in 0..shape.rows {
-            rows.push(samples(heap, source, shape.columns)?)?;
+            rows.push(samples(source, shape.columns)?)?;
         }
         Ok(Grid { shape, rows })
     }

@@ -76,7 +76,7 @@ fn mixed() -> Three<Sort> {
 }
 
 // Whether a trio row by row and one with other placements do as the model does, and end as 7.
-fn is_seven(heap: Global, source: &mut Source, report: &mut Report) -> Result<bool, AllocError> {
+fn is_seven(source: &mut Source, report: &mut Report) -> Result<bool, AllocError> {
     let shapes = journey_shapes();
     let Ok(layouts) = layouts_of(source, &by_rows(), &shapes) else {
         return Ok(false);
@@ -84,19 +84,19 @@ fn is_seven(heap: Global, source: &mut Source, report: &mut Report) -> Result<bo
     let Ok(others) = layouts_of(source, &mixed(), &shapes) else {
         return Ok(false);
     };
-    let mut trial = Trial::new(heap, source, &shapes, &layouts, &others, None)?;
-    let script = script_of(heap, &mut trial.model, &journey_calls())?;
+    let mut trial = Trial::new(source, &shapes, &layouts, &others, None)?;
+    let script = script_of(source.heap, &mut trial.model, &journey_calls())?;
     trial.count(script.as_slice(), report);
     let seven = Answer::Entry(TravelTime::new(7));
     let ends_as_seven = script.last().is_some_and(|told| told.answer == seven);
-    Ok(ends_as_seven && trial.agrees(heap, script.as_slice())?)
+    Ok(ends_as_seven && trial.agrees(source.heap, script.as_slice())?)
 }
 
 // The one case.
 pub fn best_of_two(heap: Global, seed: u64) -> Result<Report, AllocError> {
     let mut report = Report::new(seed);
-    let mut source = Source::new(seed, 0);
-    let is_same = is_seven(heap, &mut source, &mut report)?;
+    let mut source = Source::new(heap, seed, 0);
+    let is_same = is_seven(&mut source, &mut report)?;
     report.note_round(0, is_same);
     Ok(report)
 }

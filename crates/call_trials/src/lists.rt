@@ -16,8 +16,8 @@ pub struct Told<E> {
 
 impl<E: Sample> Told<E> {
     // Makes the call on the model.
-    pub fn by(heap: Global, model: &mut Model<E>, call: Call<E>) -> Result<Told<E>, AllocError> {
-        let answer = model.make(heap, call)?;
+    pub fn by(model: &mut Model<E>, call: Call<E>) -> Result<Told<E>, AllocError> {
+        let answer = model.make(call)?;
         Ok(Told { call, answer })
     }
 }
@@ -125,14 +125,13 @@ fn random_call<E: Sample>(source: &mut Source, model: &Model<E>) -> Call<E> {
 
 // 100 to 300 calls, each made on the model as soon as it is drawn.
 pub fn random_script<E: Sample>(
-    heap: Global,
     source: &mut Source,
     model: &mut Model<E>,
 ) -> Result<Vec<Told<E>>, AllocError> {
-    let mut script = Vec::new(heap);
+    let mut script = Vec::new(source.heap);
     for _ in 0..source.below(201).saturating_add(100) {
         let call = random_call(source, model);
-        script.push(Told::by(heap, model, call)?)?;
+        script.push(Told::by(model, call)?)?;
     }
     Ok(script)
 }
@@ -145,7 +144,7 @@ pub fn script_of<E: Sample>(
 ) -> Result<Vec<Told<E>>, AllocError> {
     let mut script = Vec::new(heap);
     for call in calls {
-        script.push(Told::by(heap, model, *call)?)?;
+        script.push(Told::by(model, *call)?)?;
     }
     Ok(script)
 }

@@ -28,9 +28,10 @@ enum Stop {
     Memory(#[from(alloc)] AllocError),
 }
 
-// The tables, whether all stores are long enough, the run if there is one, and how many runs were finished.
+// Where the tables and runs lie, the tables, whether all stores are long enough, the run if there is one, and how many runs were finished.
 #[derive(Drop)]
 pub struct Model<E> {
+    heap: Global,
     tables: Three<Grid<E>>,
     is_stored: bool,
     course: Option<Course>,
@@ -45,16 +46,16 @@ fn is_covered(n: u32, tile: u32, side: u32) -> bool {
 impl<E: Sample> Model<E> {
     // An idle trio of three tables with random entries.
     pub fn random(
-        heap: Global,
         source: &mut Source,
         shapes: &Three<Shape>,
         is_stored: bool,
     ) -> Result<Model<E>, AllocError> {
         Ok(Model {
+            heap: source.heap,
             tables: Three {
-                left: Grid::random(heap, source, shapes.left)?,
-                right: Grid::random(heap, source, shapes.right)?,
-                result: Grid::random(heap, source, shapes.result)?,
+                left: Grid::random(source, shapes.left)?,
+                right: Grid::random(source, shapes.right)?,
+                result: Grid::random(source, shapes.result)?,
             },
             is_stored,
             course: None,
@@ -116,7 +117,7 @@ impl<E: Sample> Model<E> {
     }
 
     // Refusals 15, 16, 18, and else all entries are taken over.
-    fn copy(&mut self, heap: Global, to: u32, from: u32, transposed: bool) -> Result<(), Stop> {
+    fn copy(&mut self, to: u32, from: u32, transposed: bool) -> Result<(), Stop> {
         let target = Table::try_from(to)?;
         let source = Table::try_from(from)?;
         if target == source {
@@ -124,9 +125,9 @@ impl<E: Sample> Model<E> {
         }
         self.stored()?;
         let taken = if transposed {
-            self.table(source).transposed(heap)?
+            self.table(source).transposed(self.heap)?
         } else {
-            self.table(source).copied(heap)?
+            self.table(source).copied(self.heap)?
         };
         if self.table(target).shape() != taken.shape() {
             return Err(Stop::Declined(Refusal::Mismatch));
@@ -154,12 +155,12 @@ impl<E: Sample> Model<E> {
     }
 
     // Refusals 18, 19, and else a run begins.
-    fn begin(&mut self, heap: Global, order: u32) -> Result<(), Stop> {
+    fn begin(&mut self, order: u32) -> Result<(), Stop> {
         let sides = self.sides()?;
         if order > 12 {
             return Err(Stop::Declined(Refusal::TileOrder));
         }
-        let rest = walk_of(heap, sides, order)?;
+        let rest = walk_of(self.heap, sides, order)?;
         self.course = Some(Course { order, rest });
         Ok(())
     }
@@ -208,7 +209,7 @@ impl<E: Sample> Model<E> {
     }
 
     // Makes a call of an idle trio.
-    fn make_idle(&mut self, heap: Global, call: Call<E>) -> Result<Answer<E>, Stop> {
+    fn make_idle(&mut self, call: Call<E>) -> Result<Answer<E>, Stop> {
         match call {
             Call::Put {
                 table,
@@ -224,8 +225,8 @@ impl<E: Sample> Model<E> {
                 to,
                 from,
                 transposed,
-            } => self.copy(heap, to, from, transposed)?,
-            Call::Begin { order } => self.begin(heap, order)?,
+            } => self.copy(to, from, transposed)?,
+            Call::Begin { order } => self.begin(order)?,
             Call::Step { .. } | Call::Remaining | Call::End => return Ok(Answer::NotOffered),
         }
         Ok(Answer::Done)
@@ -244,10 +245,10 @@ impl<E: Sample> Model<E> {
     }
 
     // Makes a call, and answers it.
-    pub fn make(&mut self, heap: Global, call: Call<E>) -> Result<Answer<E>, AllocError> {
+    pub fn make(&mut self, call: Call<E>) -> Result<Answer<E>, AllocError> {
         let outcome = match self.course.take() {
             Some(course) => self.make_running(course, call),
-            None => self.make_idle(heap, call),
+            None => self.make_idle(call),
         };
         match outcome {
             Ok(answer) => Ok(answer),

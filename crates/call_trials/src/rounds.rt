@@ -68,11 +68,7 @@ fn random_short(source: &mut Source) -> Option<Table> {
 }
 
 // One round: whether both trios do as the model does at a random list of calls.
-fn one_round<E: Sample>(
-    heap: Global,
-    source: &mut Source,
-    report: &mut Report,
-) -> Result<bool, AllocError> {
+fn one_round<E: Sample>(source: &mut Source, report: &mut Report) -> Result<bool, AllocError> {
     let shapes = random_shapes(source);
     let sorts = Three::each(|_| Sort::random(source));
     let other_sorts = Three::each(|table| sorts.of(table).other(source));
@@ -83,18 +79,18 @@ fn one_round<E: Sample>(
         return Ok(false);
     };
     let short = random_short(source);
-    let mut trial: Trial<E> = Trial::new(heap, source, &shapes, &layouts, &others, short)?;
-    let script = random_script(heap, source, &mut trial.model)?;
+    let mut trial: Trial<E> = Trial::new(source, &shapes, &layouts, &others, short)?;
+    let script = random_script(source, &mut trial.model)?;
     trial.count(script.as_slice(), report);
-    trial.agrees(heap, script.as_slice())
+    trial.agrees(source.heap, script.as_slice())
 }
 
 // A thousand rounds of one kind.
 pub fn random_rounds<E: Sample>(heap: Global, seed: u64) -> Result<Report, AllocError> {
     let mut report = Report::new(seed);
     for round in 0..1_000u32 {
-        let mut source = Source::new(seed, round);
-        let agrees = one_round::<E>(heap, &mut source, &mut report)?;
+        let mut source = Source::new(heap, seed, round);
+        let agrees = one_round::<E>(&mut source, &mut report)?;
         report.note_round(round, agrees);
     }
     Ok(report)

@@ -2,7 +2,7 @@
 use crate::source::Source;
 use draws::Draws;
 use kinds::{Connection, Count, Kind, TravelTime};
-use std::alloc::{AllocError, Global};
+use std::alloc::AllocError;
 
 // How a trial makes an element of any number.
 pub trait Sample: Kind + Copy + Drop + PartialEq {
@@ -34,12 +34,8 @@ impl Sample for Connection {
 
 // A list of random elements. It is a loop, since a closure whose result is of a type parameter that nothing it is given
 // names gets no proof yet.
-pub fn samples<E: Sample>(
-    heap: Global,
-    source: &mut Source,
-    length: u32,
-) -> Result<Vec<E>, AllocError> {
-    let mut list = Vec::new(heap);
+pub fn samples<E: Sample>(source: &mut Source, length: u32) -> Result<Vec<E>, AllocError> {
+    let mut list = Vec::new(source.heap);
     for _ in 0..length {
         list.push(E::sample(source.next()))?;
     }

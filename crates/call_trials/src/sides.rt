@@ -108,7 +108,6 @@ fn write_entries<E: Sample>(layout: &Layout, store: &mut [E], grid: &Grid<E>) {
 impl<E: Sample> Stored<E> {
     // A table of the model in a store. All other cells hold something too.
     fn new(
-        heap: Global,
         source: &mut Source,
         layout: Layout,
         is_short: bool,
@@ -116,12 +115,12 @@ impl<E: Sample> Stored<E> {
         table: Table,
     ) -> Result<Stored<E>, AllocError> {
         let length = random_length(source, &layout, is_short);
-        let mut store: Vec<E> = samples(heap, source, length)?;
+        let mut store: Vec<E> = samples(source, length)?;
         write_entries(&layout, store.as_mut_slice(), model.table(table));
         let idle = (0..length)
             .zip(store.iter().copied())
             .filter(|(cell, _)| layout.owner(*cell).is_none())
-            .collect(heap)?;
+            .collect(source.heap)?;
         Ok(Stored {
             table,
             layout,
@@ -167,7 +166,6 @@ pub struct Side<E> {
 impl<E: Sample> Side<E> {
     // The tables of the model over three placements. The store of one of them may be too short.
     pub fn new(
-        heap: Global,
         source: &mut Source,
         layouts: &Three<Layout>,
         short: Option<Table>,
@@ -175,7 +173,7 @@ impl<E: Sample> Side<E> {
     ) -> Result<Side<E>, AllocError> {
         let tables = Three::try_each(|table| {
             let is_short = short == Some(table);
-            Stored::new(heap, source, *layouts.of(table), is_short, model, table)
+            Stored::new(source, *layouts.of(table), is_short, model, table)
         })?;
         Ok(Side { tables })
     }

@@ -1,15 +1,19 @@
 // Numbers that look random and are the same at every run: steps of one odd number, each stirred by two products.
 use draws::Draws;
+use std::alloc::Global;
 
 #[derive(Clone, Copy)]
 pub struct Source {
+    // Where lists of what is drawn lie.
+    pub heap: Global,
     state: u64,
 }
 
 impl Source {
     // The numbers of a seed and a round, so that one round can be made again without those before it.
-    pub fn new(seed: u64, round: u32) -> Source {
+    pub fn new(heap: Global, seed: u64, round: u32) -> Source {
         Source {
+            heap,
             state: seed.wrapping_add(u64::from(round).wrapping_mul(0xd1b5_4a32_d192_ed03)),
         }
     }

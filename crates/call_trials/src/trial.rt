@@ -22,16 +22,15 @@ pub struct Trial<E> {
 impl<E: Sample> Trial<E> {
     // Random entries over the placements of both sides. The store of one table may be too short on both.
     pub fn new(
-        heap: Global,
         source: &mut Source,
         shapes: &Three<Shape>,
         layouts: &Three<Layout>,
         others: &Three<Layout>,
         short: Option<Table>,
     ) -> Result<Trial<E>, AllocError> {
-        let model = Model::random(heap, source, shapes, short.is_none())?;
-        let first = Side::new(heap, source, layouts, short, &model)?;
-        let second = Side::new(heap, source, others, short, &model)?;
+        let model = Model::random(source, shapes, short.is_none())?;
+        let first = Side::new(source, layouts, short, &model)?;
+        let second = Side::new(source, others, short, &model)?;
         Ok(Trial {
             model,
             first,

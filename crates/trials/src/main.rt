@@ -24,7 +24,7 @@ fn main(rt: HostRuntime) -> io::Result<()> {
         "strings of up to three bytes",
         readings::short_strings(),
     )?;
-    print(&rt, "random strings", readings::random_strings())?;
+    print(&rt, "random strings", readings::random_strings(heap))?;
     let damaged = readings::damaged_descriptors(heap)?;
     print(&rt, "damaged descriptors", damaged)?;
     let orders = placements::named_orders();

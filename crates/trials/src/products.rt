@@ -49,8 +49,8 @@ struct Stored<E> {
 impl<E: Sample> Stored<E> {
     // A table with all cells filled. It is a loop, since a closure whose result is of a type parameter that nothing it is
     // given names gets no proof yet.
-    fn random(heap: Global, source: &mut Source, layout: Layout) -> Result<Stored<E>, AllocError> {
-        let mut store = Vec::new(heap);
+    fn random(source: &mut Source, layout: Layout) -> Result<Stored<E>, AllocError> {
+        let mut store = Vec::new(source.heap);
         for _ in 0..layout.span().saturating_add(source.below(4)) {
             store.push(E::sample(source.next()))?;
         }
@@ -140,16 +140,12 @@ fn random_layouts(source: &mut Source) -> Result<Layouts, Refusal> {
 }
 
 // One product: every cell of the result's store, idle ones too, against the plain loop.
-fn one_product<E: Sample>(
-    heap: Global,
-    source: &mut Source,
-    layouts: Layouts,
-) -> Result<Tally, AllocError> {
+fn one_product<E: Sample>(source: &mut Source, layouts: Layouts) -> Result<Tally, AllocError> {
     let order = source.below(4);
-    let left: Stored<E> = Stored::random(heap, source, layouts.left)?;
-    let right: Stored<E> = Stored::random(heap, source, layouts.right)?;
-    let mut made: Stored<E> = Stored::random(heap, source, layouts.result)?;
-    let before = Vec::from_slice(heap, made.store.as_slice())?;
+    let left: Stored<E> = Stored::random(source, layouts.left)?;
+    let right: Stored<E> = Stored::random(source, layouts.right)?;
+    let mut made: Stored<E> = Stored::random(source, layouts.result)?;
+    let before = Vec::from_slice(source.heap, made.store.as_slice())?;
     let is_made = multiply(
         Held {
             placement: &left.layout,
@@ -177,10 +173,10 @@ fn one_product<E: Sample>(
 // Finished products of one kind.
 pub fn products_of<E: Sample>(heap: Global, seed: u64) -> Result<Tally, AllocError> {
     let mut tally = Tally::new();
-    let mut source = Source::new(seed);
+    let mut source = Source::new(heap, seed);
     for _ in 0..2_000u32 {
         match random_layouts(&mut source) {
-            Ok(layouts) => tally = tally.and(one_product::<E>(heap, &mut source, layouts)?),
+            Ok(layouts) => tally = tally.and(one_product::<E>(&mut source, layouts)?),
             Err(_) => tally.note(false),
         }
     }

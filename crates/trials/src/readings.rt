@@ -188,9 +188,9 @@ fn random_byte(source: &mut Source) -> u8 {
 }
 
 // Strings of up to fifteen bytes.
-pub fn random_strings() -> Tally {
+pub fn random_strings(heap: Global) -> Tally {
     let mut tally = Tally::new();
-    let mut source = Source::new(0x9e37_79b9_7f4a_7c15);
+    let mut source = Source::new(heap, 0x9e37_79b9_7f4a_7c15);
     for _ in 0..100_000u32 {
         let mut bytes = [0u8; 15];
         for byte in bytes.iter_mut() {
@@ -215,8 +215,8 @@ fn random_layout(source: &mut Source) -> Result<Layout, Refusal> {
 }
 
 // The descriptor of such a layout, or none where it is declined.
-fn random_descriptor(heap: Global, source: &mut Source) -> Result<Option<Vec<u8>>, AllocError> {
-    let mut text = vec![in heap; 0u8; LONGEST]?;
+fn random_descriptor(source: &mut Source) -> Result<Option<Vec<u8>>, AllocError> {
+    let mut text = vec![in source.heap; 0u8; LONGEST]?;
     let Ok(layout) = random_layout(source) else {
         return Ok(None);
     };
@@ -247,9 +247,9 @@ fn damaged(source: &mut Source, mut text: Vec<u8>) -> Result<Tally, AllocError> 
 // Descriptors of named orders, and what becomes of each when it is damaged.
 pub fn damaged_descriptors(heap: Global) -> Result<Tally, AllocError> {
     let mut tally = Tally::new();
-    let mut source = Source::new(0x2545_f491_4f6c_dd1d);
+    let mut source = Source::new(heap, 0x2545_f491_4f6c_dd1d);
     for _ in 0..20_000u32 {
-        match random_descriptor(heap, &mut source)? {
+        match random_descriptor(&mut source)? {
             Some(text) => tally = tally.and(damaged(&mut source, text)?),
             None => tally.note(false),
         }

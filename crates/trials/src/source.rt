@@ -1,17 +1,20 @@
 // Numbers that look random and are the same at every run.
 use draws::Draws;
+use std::alloc::Global;
 
 // The letters of the named orders.
 pub const LETTERS: [char; 5] = ['R', 'C', 'Z', 'N', 'H'];
 
 #[derive(Clone, Copy)]
 pub struct Source {
+    // Where lists of what is drawn lie.
+    pub heap: Global,
     state: u64,
 }
 
 impl Source {
-    pub fn new(seed: u64) -> Source {
-        Source { state: seed }
+    pub fn new(heap: Global, seed: u64) -> Source {
+        Source { heap, state: seed }
     }
 }
 
