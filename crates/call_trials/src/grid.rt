@@ -1,4 +1,4 @@
-// A table as a plain list of its rows.
+// A table as a plain list of its rows. The shape stands beside them, since the length of a list is of another type.
 use crate::sample::{Sample, samples};
 use crate::source::Source;
 use placement::Shape;

@@ -28,7 +28,8 @@ enum Stop {
     Memory(#[from(alloc)] AllocError),
 }
 
-// Where the tables and runs lie, the tables, whether all stores are long enough, the run if there is one, and how many runs were finished.
+// Where lists are made, the tables, whether all stores are long enough, the run if there is one, and how many runs were
+// finished.
 #[derive(Drop)]
 pub struct Model<E> {
     heap: Global,
@@ -168,11 +169,12 @@ impl<E: Sample> Model<E> {
     // Adds to one entry of the result the terms of a tile's middle indices.
     fn add_terms(&mut self, row: u32, column: u32, tile: u32, side: u32) {
         let (left, right) = (&self.tables.left, &self.tables.right);
+        let term = |middle: u32| left
+            .or_zero(row, middle)
+            .times(right.or_zero(middle, column));
         let sum = (0..left.shape().columns)
             .filter(|middle| is_covered(*middle, tile, side))
-            .map(|middle| left
-                .or_zero(row, middle)
-                .times(right.or_zero(middle, column)))
+            .map(term)
             .fold(self.tables.result.or_zero(row, column), E::plus);
         if let Some(entry) = self.tables.result.entry_mut(row, column) {
             *entry = sum;
@@ -183,12 +185,10 @@ impl<E: Sample> Model<E> {
     fn add_tile(&mut self, order: u32, spot: Spot) {
         let side = 1u32.wrapping_shl(order);
         let shape = self.tables.result.shape();
-        for row in (0..shape.rows).filter(|row| is_covered(*row, spot.row, side)) {
-            for column in (0..shape.columns).filter(|column| is_covered(
-                *column,
-                spot.column,
-                side,
-            )) {
+        let rows = (0..shape.rows).filter(|n| is_covered(*n, spot.row, side));
+        for row in rows {
+            let columns = (0..shape.columns).filter(|n| is_covered(*n, spot.column, side));
+            for column in columns {
                 self.add_terms(row, column, spot.middle, side);
             }
         }

@@ -143,10 +143,8 @@ impl<E: Sample> Stored<E> {
     // Whether all entries are the model's.
     fn has_entries(&self, model: &Model<E>) -> bool {
         let shape = self.layout.shape();
-        shape == model.table(self.table).shape()
-            && (0..shape.rows).all(|row| (0..shape.columns).all(|column| self.has_entry(
-                model, row, column,
-            )))
+        let has_row = |row| (0..shape.columns).all(|column| self.has_entry(model, row, column));
+        shape == model.table(self.table).shape() && (0..shape.rows).all(has_row)
     }
 
     // Whether all cells that no entry owns are as they were.
@@ -154,6 +152,11 @@ impl<E: Sample> Stored<E> {
         self.idle
             .iter()
             .all(|(cell, old)| self.store.get(*cell as usize) == Some(old))
+    }
+
+    // Whether all entries are the model's, and all other cells as they were.
+    fn agrees(&self, model: &Model<E>) -> bool {
+        self.has_entries(model) && self.keeps_idle_cells()
     }
 }
 
@@ -188,10 +191,11 @@ impl<E: Sample> Side<E> {
         Idle::open(left.layout, right.layout, result.layout)
     }
 
-    // Whether all entries are the model's, and all other cells as they were.
+    // Whether all three tables agree with the model.
     pub fn agrees(&self, model: &Model<E>) -> bool {
-        TABLES.iter().map(|table| self.tables.of(*table)).all(|stored| stored.has_entries(model)
-            && stored.keeps_idle_cells())
+        TABLES
+            .iter()
+            .all(|table| self.tables.of(*table).agrees(model))
     }
 }
 

@@ -11,7 +11,7 @@ use std::alloc::{AllocError, Global};
 use tally::Tally;
 use walk::{Sizes, count, triple_at};
 
-// How a trial makes an element of any number.
+// How a trial makes an element of any number. `call_trials` has a trait of its own, since it draws travel times otherwise.
 pub trait Sample: Kind + Copy + Drop + PartialEq {
     fn sample(n: u32) -> Self;
 }
