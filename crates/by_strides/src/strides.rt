@@ -12,25 +12,10 @@ use std::marker::PhantomData;
 pub struct Strides<A: Axis> {
     pub shape: Shape,
     pub stride: u32,
-    axis: PhantomData<A>,
+    pub axis: PhantomData<A>,
     pub ghost legal: { StrideFits (place_of A.turns shape.rows shape.columns) (line_of A.turns shape.rows shape.columns) stride },
 }
 
-impl<A: Axis> Strides<A> {
-    pub fn new(shape: Shape, stride: u32) -> Strides<A>
-        requires { StrideFits (place_of A.turns shape.rows shape.columns) (line_of A.turns shape.rows shape.columns) stride }
-        ensures shape { result.shape ≡ shape }
-        ensures stride { result.stride ≡ stride }
-    {
-        Strides {
-            shape,
-            stride,
-            axis: PhantomData,
-        }
-    }
-}
-
-// Over a ghost field neither is derived for a type with a parameter.
 impl<A: Axis> Copy for Strides<A> {}
 
 impl<A: Axis> Clone for Strides<A> {

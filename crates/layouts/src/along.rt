@@ -7,6 +7,7 @@ ghost use Rattle.layouts.specs.Layouts.{layout_plan};
 use crate::layout::Layout;
 use by_strides::{Axis, ByColumns, ByRows, Strides};
 use placement::Shape;
+use std::marker::PhantomData;
 
 // An axis along which strides are one of the layouts.
 pub trait LayoutAxis: Axis {
@@ -17,12 +18,20 @@ pub trait LayoutAxis: Axis {
 
 impl LayoutAxis for ByRows {
     fn layout(shape: Shape, stride: u32) -> Layout {
-        Layout::RowStride(Strides::new(shape, stride))
+        Layout::RowStride(Strides {
+            shape,
+            stride,
+            axis: PhantomData,
+        })
     }
 }
 
 impl LayoutAxis for ByColumns {
     fn layout(shape: Shape, stride: u32) -> Layout {
-        Layout::ColumnStride(Strides::new(shape, stride))
+        Layout::ColumnStride(Strides {
+            shape,
+            stride,
+            axis: PhantomData,
+        })
     }
 }
