@@ -67,22 +67,21 @@ impl<E: Sample> Stored<E> {
 }
 
 // Makes all tile products of the reflected walk, and says whether the tables fit together for it.
-fn multiply<P: Placement, E: Kind + Copy>(
-    left: Held<P, E>,
-    right: Held<P, E>,
-    res: &P,
+fn multiply<E: Sample>(
+    left: &Stored<E>,
+    right: &Stored<E>,
+    target: &Layout,
     results: &mut [E],
     order: u32,
 ) -> bool {
-    let rows = left.placement.shape().rows;
-    let middle = left.placement.shape().columns;
-    let columns = right.placement.shape().columns;
-    let is_fitting = right.placement.shape().rows == middle
-        && res.shape().rows == rows
-        && res.shape().columns == columns;
-    let is_stored = left.placement.span() as usize <= left.store.len()
-        && right.placement.span() as usize <= right.store.len()
-        && res.span() as usize <= results.len();
+    let Shape { rows, columns } = target.shape();
+    let middle = left.layout.shape().columns;
+    let is_fitting = left.layout.shape().rows == rows
+        && right.layout.shape().rows == middle
+        && right.layout.shape().columns == columns;
+    let is_stored = left.layout.span() as usize <= left.store.len()
+        && right.layout.span() as usize <= right.store.len()
+        && target.span() as usize <= results.len();
     if !is_fitting || !is_stored || order > 12 {
         return false;
     }
@@ -92,9 +91,11 @@ fn multiply<P: Placement, E: Kind + Copy>(
         middle,
         order,
     };
+    let left = Held::new(&left.layout, left.store.as_slice());
+    let right = Held::new(&right.layout, right.store.as_slice());
     for n in 0..count(sizes) {
         if let Some(triple) = triple_at(sizes, n) {
-            tile_product(left, right, res, results, sizes, triple);
+            tile_product(left, right, target, results, sizes, triple);
         }
     }
     true
@@ -147,14 +148,8 @@ fn one_product<E: Sample>(source: &mut Source, layouts: Layouts) -> Result<Tally
     let mut made: Stored<E> = Stored::random(source, layouts.result)?;
     let before = Vec::from_slice(source.heap, made.store.as_slice())?;
     let is_made = multiply(
-        Held {
-            placement: &left.layout,
-            store: left.store.as_slice(),
-        },
-        Held {
-            placement: &right.layout,
-            store: right.store.as_slice(),
-        },
+        &left,
+        &right,
         &layouts.result,
         made.store.as_mut_slice(),
         order,
