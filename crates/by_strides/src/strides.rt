@@ -1,8 +1,7 @@
 // Strides: the numbers of a placement by lines that begin a fixed number of cells apart. The ghost field is what makes it
 // legal, so that every value of the type is a placement.
 ghost use Rattle.std.specs.Prelude.{◌≡◌, ⊤};
-ghost use Rattle.plans.specs.Conditions.{StrideFits};
-ghost use Rattle.plans.specs.Plans.{line_of, place_of};
+ghost use Rattle.plans.specs.Plans.{LinesFit};
 
 use crate::axis::{Axis, ByColumns, ByRows};
 use placement::Shape;
@@ -13,7 +12,7 @@ pub struct Strides<A: Axis> {
     pub shape: Shape,
     pub stride: u32,
     pub axis: PhantomData<A>,
-    pub ghost legal: { StrideFits (place_of A.turns shape.rows shape.columns) (line_of A.turns shape.rows shape.columns) stride },
+    pub ghost legal: { LinesFit A.turns shape.rows shape.columns stride },
 }
 
 impl<A: Axis> Copy for Strides<A> {}

@@ -1,7 +1,6 @@
 // The layouts by strides, one for each axis.
 ghost use Rattle.std.specs.Prelude.{◌≡◌};
-ghost use Rattle.plans.specs.Conditions.{StrideFits};
-ghost use Rattle.plans.specs.Plans.{line_of, place_of, by_stride};
+ghost use Rattle.plans.specs.Plans.{LinesFit, by_stride};
 ghost use Rattle.layouts.specs.Layouts.{layout_plan};
 
 use crate::layout::Layout;
@@ -12,7 +11,7 @@ use std::marker::PhantomData;
 // An axis along which strides are one of the layouts.
 pub trait LayoutAxis: Axis {
     fn layout(shape: Shape, stride: u32) -> Layout
-        requires { StrideFits (place_of Self.turns shape.rows shape.columns) (line_of Self.turns shape.rows shape.columns) stride }
+        requires { LinesFit Self.turns shape.rows shape.columns stride }
         ensures { layout_plan result ≡ by_stride Self.turns shape.rows shape.columns stride };
 }
 

@@ -4,7 +4,7 @@ use Rattle.std.proofs.lemmas.Nat.{mul-le, div-mul-add, mod-mul-add}
 use Rattle.placement.specs.Sites.{Lawful, Owner}
 use Rattle.placement.proofs.Owners.{owner_some, owner_none}
 use Rattle.plans.specs.Conditions.{StrideFits}
-use Rattle.plans.specs.Plans.{line_of, place_of, strided}
+use Rattle.plans.specs.Plans.{LinesFit, line_of, place_of, strided}
 
 module _ (near far s : ℕ) (fit : StrideFits near far s) where
   quotient : (f n : ℕ) → n < near → (s * f + n) / s ≡ f
@@ -34,7 +34,7 @@ module _ (near far s : ℕ) (fit : StrideFits near far s) where
   whole : (at : ℕ) → s * (at / s) + at % s ≡ at
   whole at = omega arith
 
-pub lawful_strided : (turns : Bool) (r c s : ℕ) → StrideFits (place_of turns r c) (line_of turns r c) s → Lawful (strided turns r c s)
+pub lawful_strided : (turns : Bool) (r c s : ℕ) → LinesFit turns r c s → Lawful (strided turns r c s)
 lawful_strided false r c s fit = record {
   some_row = omega (arith, fit.strided_side.0);
   row_limit = fit.strided_side.1;
@@ -57,12 +57,12 @@ lawful_strided true r c s fit = record {
 }
 
 -- the entry of a cell's line and place has the cell
-pub owner_strided : (turns : Bool) (r c s : ℕ) → StrideFits (place_of turns r c) (line_of turns r c) s → (at i j : ℕ) → i ≡ line_of turns (at / s) (at % s) → j ≡ place_of turns (at / s) (at % s) → i < r → j < c → Owner (strided turns r c s) at (Some (i, j))
+pub owner_strided : (turns : Bool) (r c s : ℕ) → LinesFit turns r c s → (at i j : ℕ) → i ≡ line_of turns (at / s) (at % s) → j ≡ place_of turns (at / s) (at % s) → i < r → j < c → Owner (strided turns r c s) at (Some (i, j))
 owner_strided false r c s fit at i j ei ej a b = owner_some (strided false r c s) at i j (lawful_strided false r c s fit) (a, b) (rw (ei, ej) (whole c r s fit at))
 owner_strided true r c s fit at i j ei ej a b = owner_some (strided true r c s) at i j (lawful_strided true r c s fit) (a, b) (rw (ei, ej) (whole r c s fit at))
 
 -- no other has
-pub no_owner_strided : (turns : Bool) (r c s : ℕ) → StrideFits (place_of turns r c) (line_of turns r c) s → (at i j : ℕ) → i ≡ line_of turns (at / s) (at % s) → j ≡ place_of turns (at / s) (at % s) → (i < r → j < c → ⊥) → Owner (strided turns r c s) at None
+pub no_owner_strided : (turns : Bool) (r c s : ℕ) → LinesFit turns r c s → (at i j : ℕ) → i ≡ line_of turns (at / s) (at % s) → j ≡ place_of turns (at / s) (at % s) → (i < r → j < c → ⊥) → Owner (strided turns r c s) at None
 no_owner_strided false r c s fit at i j ei ej out =
     owner_none (strided false r c s) at
     (λ k l h e. out (rw (ei, sym e, quotient c r s fit k l h.1) h.0) (rw (ej, sym e, remainder c r s fit k l h.1) h.1))

@@ -22,11 +22,15 @@ place_of turns row column = cond turns row column
 abbrev pub by_stride : (turns : Bool) → (rows columns stride : ℕ) → Plan
 by_stride turns rows columns stride = cond turns (by_column_stride rows columns stride) (by_row_stride rows columns stride)
 
+-- the conditions of a stride along either: the near side is the places in a line, and the strided side the lines
+abbrev pub LinesFit : (turns : Bool) → (rows columns stride : ℕ) → Type 0
+LinesFit turns rows columns stride = StrideFits (place_of turns rows columns) (line_of turns rows columns) stride
+
 -- a plan whose conditions hold
 abbrev pub Legal : Plan → Type 0
 Legal (by_masks r c y x) = MasksFit r c y x
-Legal (by_row_stride r c s) = StrideFits (place_of false r c) (line_of false r c) s
-Legal (by_column_stride r c s) = StrideFits (place_of true r c) (line_of true r c) s
+Legal (by_row_stride r c s) = LinesFit false r c s
+Legal (by_column_stride r c s) = LinesFit true r c s
 
 -- each line begins a stride after the line before it, and its places follow one another
 abbrev pub strided : (turns : Bool) → (rows columns stride : ℕ) → Site

@@ -12,7 +12,8 @@ use masked::Refusal;
 use placement::Placement;
 use trio::{Declined, Idle, Run};
 
-// Three functions and no `map_or_else`: the check covers no closure whose answer alone names E, as `|_| Answer::Done`.
+// Three functions and no `map_or_else`: tried with closures, as `|_| Answer::Done`, and with functions, as `Answer::Made`, it gets no
+// proof, since the check covers none whose answer alone names E.
 
 // The answer of a call that has nothing to tell.
 fn told<E>(outcome: Result<(), Refusal>) -> Answer<E>
