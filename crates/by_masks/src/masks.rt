@@ -1,5 +1,5 @@
 // Masks: the numbers of a placement by a row mask and a column mask. The ghost fields are what makes it legal, so that
-// every value of the type is a placement.
+// every value of the type is a placement. They are one fact each, so that whoever makes a value is asked for each by itself.
 ghost use Rattle.std.specs.Prelude.{◌≡◌, ◌-◌, ◌^◌, ◌<◌, bit_and, count_ones};
 ghost use Rattle.fields.specs.Fields.{width};
 ghost use Rattle.plans.specs.Conditions.{Side};

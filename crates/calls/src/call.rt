@@ -41,7 +41,8 @@ pub enum Call<E> {
     End,
 }
 
-// What a call was told.
+// What a call was told. A refusal is one case of six, and a list of calls goes on after it: a `Result` around the other five
+// would say the same in two steps.
 #[derive(Clone, Copy, PartialEq, Eq, Debug)]
 pub enum Answer<E> {
     // The call was made, and there is nothing to tell.

@@ -1,4 +1,5 @@
-// How many: sums and products are taken modulo 2^32.
+// How many: sums and products are taken modulo 2^32. It is a type of its own beside TravelTime: what the number means is all
+// that tells them apart, and a parameter that says so is no plainer than two names.
 ghost use Rattle.std.specs.Prelude.{◌≡◌, ◌^◌, ◌<◌};
 
 #[derive(Clone, Copy, PartialEq, Eq, Debug)]

@@ -8,7 +8,8 @@ use by_strides::{Axis, ByColumns, ByRows, Strides};
 use placement::Shape;
 use std::marker::PhantomData;
 
-// An axis along which strides are one of the layouts.
+// An axis along which strides are one of the layouts. Which one is all in which the two impls differ, and no parameter names
+// a case.
 pub trait LayoutAxis: Axis {
     fn layout(shape: Shape, stride: u32) -> Layout
         requires { LinesFit Self.turns shape.rows shape.columns stride }

@@ -74,7 +74,7 @@ pub struct Request {
     pub letter: char,
     pub rows: u32,
     pub columns: u32,
-    // 0 where the letter is not H.
+    // 0 where the letter is not H, as the maker of named orders takes it.
     pub inner: u32,
 }
 

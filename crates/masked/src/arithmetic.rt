@@ -1,4 +1,5 @@
-// Sum, difference and order of numbers under a mask, by register operations and no loop. No operand may have a bit outside the mask.
+// Sum, difference and order of numbers under a mask, by register operations and no loop. No operand may have a bit outside the
+// mask.
 ghost use Rattle.std.specs.Prelude.{◌≡◌};
 ghost use Rattle.masked.specs.Arithmetic.{sum_answer, difference_answer, plus_one_answer, minus_one_answer, less_answer, equal_answer, Ordinary};
 

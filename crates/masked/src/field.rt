@@ -24,6 +24,7 @@ pub fn spread(n: u32, mask: u32) -> Result<u32, Refusal>
     let mut out = 0u32;
     let mut bits = n;
     let mut left = mask;
+    // From one-bit to one-bit of the mask, and no further than the number goes: `address` calls this for every entry.
     while bits != 0 {
         let rest = left & (left - 1);
         if bits % 2 == 1 {

@@ -12,8 +12,8 @@ use masked::Refusal;
 use placement::Placement;
 use trio::{Declined, Idle, Run};
 
-// Three functions and no `map_or_else`: tried with closures, as `|_| Answer::Done`, and with functions, as `Answer::Made`, it gets no
-// proof, since the check covers none whose answer alone names E.
+// Three functions and no `map_or_else`, neither with a closure, as `|_| Answer::Done`, nor with a case, as `Answer::Made`: the
+// borrow checker covers no call of it that passes a function whose answer alone names E.
 
 // The answer of a call that has nothing to tell.
 fn told<E>(outcome: Result<(), Refusal>) -> Answer<E>

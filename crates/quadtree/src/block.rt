@@ -71,6 +71,7 @@ impl Block {
         ensures value { BlockAt ahnentafel_of index result }
         ensures law { ThereAndBack ahnentafel_of }
     {
+        // Thirteen starts, one after another: a search for the start alone would still have to ask how many blocks it has.
         for (level, start) in LEVEL_STARTS.iter().enumerate() {
             if index >= *start && index - *start < *start / 3 {
                 return Ok(Block {
