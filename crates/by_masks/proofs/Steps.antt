@@ -2,10 +2,8 @@
 use Rattle.std.proofs.Common.{◌≡◌, ℕ, ◌+◌, ◌-◌, ◌%◌, ◌^◌, ◌<◌, true, is_ok, Ok, Result, sym, ap, ◌∙◌, mod-eq_of_lt, arith}
 use lib.Bits.{bit_and}
 use lib.Count.{ones}
-use Rattle.std.proofs.lemmas.Bool.{lt-ltb}
 use Rattle.fields.specs.Fields.{spread, gather}
 use Rattle.fields.proofs.Fields.{spread_gather, gather_spread}
-use Rattle.masked.specs.Fields.{spread_answer}
 use Rattle.masked.specs.Arithmetic.{sum_answer}
 use Rattle.masked.specs.declared.refusal.Refusal.{Refusal}
 use Rattle.masked.proofs.Ordinary.{ordinary}
@@ -36,30 +34,18 @@ summed x y m small h =
     let e : (x + y) % 2 ^ ones m ≡ x + y = mod-eq_of_lt h in
     o.summed ∙ ap (λ n. Ok (spread n m)) e
 
--- a number with no bit outside m, and one that together with what is gathered of it has room
-module _ (v d m : ℕ) (small : m < 2 ^ 32) (inside : bit_and v m ≡ v) (h : gather v m + d < 2 ^ ones m) where
-  again : spread (gather v m) m ≡ v
-  again = spread_gather v m small ∙ inside
+-- a number with no bit outside m, and a distance that together with what is gathered of it has room
+module _ (v d m step : ℕ) (small : m < 2 ^ 32) (inside : bit_and v m ≡ v) (h : gather v m + d < 2 ^ ones m) (is : step ≡ spread d m) (sum : Result ℕ Refusal) (f : sum ≡ sum_answer v step m) where
+  moved : sum ≡ Ok (spread (gather v m + d) m)
+  moved =
+      let again : spread (gather v m) m ≡ v = spread_gather v m small ∙ inside in
+      f ∙ rw is (ap (λ a. sum_answer a (spread d m) m) (sym again) ∙ summed (gather v m) d m small h)
 
-  -- the distance has room too
-  stepped : spread_answer d m ≡ Ok (spread d m)
-  stepped = rw (lt-ltb d (2 ^ ones m) (omega arith))
+  pub sum_accepted : is_ok sum ≡ true
+  sum_accepted = ap is_ok moved
 
-  pub step_accepted : (r : Result ℕ Refusal) → r ≡ spread_answer d m → is_ok r ≡ true
-  step_accepted r e = ap is_ok (e ∙ stepped)
-
-  -- the sum with the distance
-  module _ (step : ℕ) (r : Result ℕ Refusal) (e : r ≡ spread_answer d m) (told : r ≡ Ok step) (sum : Result ℕ Refusal) (f : sum ≡ sum_answer v step m) where
-    moved : sum ≡ Ok (spread (gather v m + d) m)
-    moved =
-        let is : step ≡ spread d m = ok_same step (spread d m) r told (e ∙ stepped) in
-        f ∙ rw is (ap (λ a. sum_answer a (spread d m) m) (sym again) ∙ summed (gather v m) d m small h)
-
-    pub sum_accepted : is_ok sum ≡ true
-    sum_accepted = ap is_ok moved
-
-    pub sum_told : (w : ℕ) → sum ≡ Ok w → w ≡ spread (gather v m + d) m
-    sum_told w p = ok_same w (spread (gather v m + d) m) sum p moved
+  pub sum_told : (w : ℕ) → sum ≡ Ok w → w ≡ spread (gather v m + d) m
+  sum_told w p = ok_same w (spread (gather v m + d) m) sum p moved
 
 -- the two parts of the cell reached add up within the positions
 pub moved_small : (m : Masks) (at a b v w : ℕ) → v ≡ spread (gather (bit_and at m.row_mask) m.row_mask + a) m.row_mask → w ≡ spread (gather (bit_and at m.column_mask) m.column_mask + b) m.column_mask → v + w < 2 ^ 24

@@ -4,5 +4,6 @@
 mod masks;
 mod masks_placement;
 mod moves;
+mod parts;
 
 pub use masks::Masks;

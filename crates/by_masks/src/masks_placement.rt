@@ -5,7 +5,8 @@ ghost use Rattle.plans.proofs.MaskLaws.{lawful_masks};
 ghost use Rattle.by_masks.specs.Fits.{masks_fit};
 
 use crate::masks::Masks;
-use masked::{Refusal, gather, spread};
+use crate::parts::{index_of, part};
+use masked::Refusal;
 use placement::{Placement, Shape};
 
 impl Placement for Masks {
@@ -18,8 +19,8 @@ impl Placement for Masks {
     }
 
     fn span(&self) -> u32 {
-        let row_part = spread(self.shape.rows - 1, self.row_mask).unwrap();
-        let column_part = spread(self.shape.columns - 1, self.column_mask).unwrap();
+        let row_part = part(self.shape.rows - 1, self.row_mask);
+        let column_part = part(self.shape.columns - 1, self.column_mask);
         row_part + column_part + 1
     }
 
@@ -27,8 +28,8 @@ impl Placement for Masks {
         if row >= self.shape.rows || column >= self.shape.columns {
             return Err(Refusal::Outside);
         }
-        let row_part = spread(row, self.row_mask).unwrap();
-        let column_part = spread(column, self.column_mask).unwrap();
+        let row_part = part(row, self.row_mask);
+        let column_part = part(column, self.column_mask);
         Ok(row_part + column_part)
     }
 
@@ -38,8 +39,8 @@ impl Placement for Masks {
         if row_part + column_part != cell {
             return None;
         }
-        let row = gather(row_part, self.row_mask).unwrap();
-        let column = gather(column_part, self.column_mask).unwrap();
+        let row = index_of(row_part, self.row_mask);
+        let column = index_of(column_part, self.column_mask);
         if row < self.shape.rows && column < self.shape.columns {
             Some((row, column))
         } else {

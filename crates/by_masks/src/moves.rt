@@ -1,12 +1,11 @@
 // Moving along rows and columns without leaving the cell numbers.
-ghost use Rattle.std.specs.Prelude.{◌≡◌, ◌+◌, ◌^◌, ◌<◌, bit_and, count_ones};
-ghost use Rattle.fields.specs.Fields.{spread as spread_of, gather as gather_of};
 ghost use Rattle.by_masks.specs.Layouts.{masks_plan};
 ghost use Rattle.by_masks.specs.Moves.{Moved};
 ghost use Rattle.plans.specs.Plans.{site_of};
 
 use crate::masks::Masks;
-use masked::{Refusal, spread, sum};
+use crate::parts::moved_part;
+use masked::Refusal;
 use placement::Placement;
 
 impl Masks {
@@ -36,14 +35,4 @@ impl Masks {
         let column_part = moved_part(cell & self.column_mask, columns, self.column_mask);
         Ok(row_part + column_part)
     }
-}
-
-// The part of a cell under a mask, moved on by a distance: the field's sum, which does not come round.
-fn moved_part(part: u32, distance: u32, mask: u32) -> u32
-    requires inside { bit_and part mask ≡ part }
-    requires room { gather_of part mask + distance < 2 ^ count_ones mask }
-    ensures { result ≡ spread_of (gather_of part mask + distance) mask }
-{
-    let step = spread(distance, mask).unwrap();
-    sum(part, step, mask).unwrap()
 }

@@ -1,22 +1,16 @@
-use Rattle.std.proofs.Common.{◌+◌, ◌-◌, ◌^◌, ◌<◌, arith}
-use Rattle.by_masks.proofs.Calls.{part_accepted, part_told, parts_small}
+use Rattle.std.proofs.Common.{arith}
+use Rattle.plans.proofs.MaskLaws.{room}
+use Rattle.by_masks.proofs.Calls.{parts_small}
 use Rattle.by_masks.proofs.masks_placement.MasksPlacement.span.Goals as goal
 
-pub unwrap-row_part-requires : goal.unwrap-row_part-requires
-unwrap-row_part-requires c = let m = c.args.self.now in part_accepted _ _ _ m.tall.0 (omega (arith, m.tall.0)) m.rowbits _ c.spread.ensures.value
+pub part-row_part-requires : goal.part-row_part-requires
+part-row_part-requires c = let m = c.args.self.now in room _ m.shape.rows m.row_mask m.tall.0 (omega (arith, m.tall.0)) m.rowbits
 
-pub unwrap-column_part-requires : goal.unwrap-column_part-requires
-unwrap-column_part-requires c = let m = c.args.self.now in part_accepted _ _ _ m.broad.0 (omega (arith, m.broad.0)) m.columnbits _ c.spread-2.ensures.value
-
-small : (c : goal.After-unwrap-column_part) → c.unwrap-row_part.result + c.unwrap-column_part.result < 2 ^ 24
-small c =
-    let m = c.args.self.now in
-    parts_small m (m.shape.rows - 1) (m.shape.columns - 1) _ _
-    (part_told _ _ _ m.tall.0 (omega (arith, m.tall.0)) m.rowbits _ c.spread.ensures.value _ c.unwrap-row_part.ensures)
-    (part_told _ _ _ m.broad.0 (omega (arith, m.broad.0)) m.columnbits _ c.spread-2.ensures.value _ c.unwrap-column_part.ensures)
+pub part-column_part-requires : goal.part-column_part-requires
+part-column_part-requires c = let m = c.args.self.now in room _ m.shape.columns m.column_mask m.broad.0 (omega (arith, m.broad.0)) m.columnbits
 
 pub overflow_add-result : goal.overflow_add-result
-overflow_add-result c = omega (arith, small c)
+overflow_add-result c = omega (arith, parts_small c.args.self.now _ _ _ _ c.part-row_part.ensures c.part-column_part.ensures)
 
 pub overflow_add-result-2 : goal.overflow_add-result-2
-overflow_add-result-2 c = omega (arith, small c)
+overflow_add-result-2 c = omega (arith, parts_small c.args.self.now _ _ _ _ c.part-row_part.ensures c.part-column_part.ensures)
