@@ -53,12 +53,3 @@ module _ {E : Type 0} (kind : Kinds E) (t : Trio) (m : Moment E) (cs : List (Cal
         count = let z = p.count in omega arith;
         room = let z = p.room in omega arith;
       }
-
-  pub played_all : (i : ℕ) (answers : List (Answer E)) (len cap : ℕ) (later : Moment E) (tables : Trio)
-      → Played kind t m cs i answers len cap later tables → length cs ≤ i → Replayed kind t m cs answers later
-  played_all i answers len cap later tables p h =
-      let e = take_all i cs h in
-      record {
-        answers_are = p.made.answers_are ∙ ap (answers_to kind t m) e;
-        cells_are = p.made.cells_are ∙ ap (all_done kind t m) e;
-      }
