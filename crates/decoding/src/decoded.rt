@@ -31,10 +31,7 @@ pub fn number_at(input: &[u8], at: usize) -> Result<Number, Fault>
         value += (byte % 128) << (7 * group);
         if byte < 128 {
             if byte == 0 && group > 0 {
-                return Err(Fault {
-                    refusal: Refusal::Padded,
-                    place: at,
-                });
+                return Err(Fault::new(Refusal::Padded, at));
             }
             return Ok(Number {
                 value,
@@ -43,13 +40,7 @@ pub fn number_at(input: &[u8], at: usize) -> Result<Number, Fault>
         }
     }
     if bytes.len() < 4 {
-        return Err(Fault {
-            refusal: Refusal::Ended,
-            place: input.len(),
-        });
+        return Err(Fault::new(Refusal::Ended, input.len()));
     }
-    Err(Fault {
-        refusal: Refusal::TooLong,
-        place: at,
-    })
+    Err(Fault::new(Refusal::TooLong, at))
 }

@@ -1,4 +1,7 @@
 // Why a descriptor was refused, and where.
+ghost use Rattle.std.specs.Prelude.{◌≡◌};
+ghost use Rattle.decoding.specs.Reading.{fault};
+
 use masked::Refusal;
 
 // The place is the offset of the first byte of the number at fault. Where the input ended too early it is the length of the
@@ -7,4 +10,12 @@ use masked::Refusal;
 pub struct Fault {
     pub refusal: Refusal,
     pub place: usize,
+}
+
+impl Fault {
+    pub fn new(refusal: Refusal, place: usize) -> Fault
+        ensures { result ≡ fault refusal place }
+    {
+        Fault { refusal, place }
+    }
 }
