@@ -72,13 +72,13 @@ group_fits value b g h l =
     times a p h = mul-le a p 127 p h (omega arith)
 
 -- the last byte: a zero byte after others, or the number
-pub last_padded : (first g value b next : ℕ) → 0 < g → b ≡ 0 → Err (fault Padded first) ≡ after first g value (Ok (number b next))
+last_padded : (first g value b next : ℕ) → 0 < g → b ≡ 0 → Err (fault Padded first) ≡ after first g value (Ok (number b next))
 last_padded first g value b next h z =
     let some : ltb 0 g ≡ true = lt-ltb 0 g h in
     let none : eqb b 0 ≡ true = eq-eqb b 0 z in
     rw (some, none)
 
-pub last_kept : (first g value b next : ℕ) → g < 4 → b < 128 → ((b ≡ 0) × (g ≤ 0)) ⊎ (b ≡ 0 → ⊥) → Ok (number (value + ((b % 128) * 2 ^ (7 * g)) % 2 ^ 32) next) ≡ after first g value (Ok (number b next))
+last_kept : (first g value b next : ℕ) → g < 4 → b < 128 → ((b ≡ 0) × (g ≤ 0)) ⊎ (b ≡ 0 → ⊥) → Ok (number (value + ((b % 128) * 2 ^ (7 * g)) % 2 ^ 32) next) ≡ after first g value (Ok (number b next))
 last_kept first g value b next l low = ⊎_elim
     (λ h. let t : ltb 0 g ≡ false = le-ltb 0 g h.1 in rw t (ap (λ (v : ℕ). Ok (number v next)) value_is))
     (λ h. let t : eqb b 0 ≡ false = ne_eqb b 0 h in rw (t, and_none (ltb 0 g)) (ap (λ (v : ℕ). Ok (number v next)) value_is))
@@ -112,7 +112,7 @@ module _ (input : List ℕ) (first g value : ℕ) (h : SoFar input first g value
   left_more l = let e : 4 - g ≡ suc (3 - g) = omega arith in ap (λ (k : ℕ). number_by (length input) first k (first + g) (drop (first + g) input)) e
 
   -- the last byte
-  pub so_far_last : (b : ℕ) → g < 4 → (first + g) < length input → b ≡ get_or input (first + g) 0 → b < 128 → after first g value (Ok (number b ((first + g) + 1))) ≡ number_at input first
+  so_far_last : (b : ℕ) → g < 4 → (first + g) < length input → b ≡ get_or input (first + g) 0 → b < 128 → after first g value (Ok (number b ((first + g) + 1))) ≡ number_at input first
   so_far_last b l e is low =
       let t : ltb (get_or input (first + g) 0) 128 ≡ true = lt-ltb (get_or input (first + g) 0) 128 (omega arith) in
       left_is (Ok (number b ((first + g) + 1)))
@@ -131,3 +131,14 @@ module _ (input : List ℕ) (first g value : ℕ) (h : SoFar input first g value
         small = group_fits value b g l h.small;
         gives = rw (fewer, shifted, on) (sym (after_led first g value b rest) ∙ led);
       }
+
+-- the number ends with the byte b, the next of the four
+module _ (input bytes : List ℕ) (first g value b : ℕ) (h : SoFar input first g value) (four : bytes ≡ take 4 (drop first input)) (more : g < length bytes) (is : b ≡ get_or bytes g 0) (low : b < 128) where
+  ends : after first g value (Ok (number b ((first + g) + 1))) ≡ number_at input first
+  ends = let f = four_at input bytes first g four more in so_far_last input first g value h b f.few f.inside (is ∙ f.same) low
+
+  pub ends_padded : 0 < g → b ≡ 0 → Err (fault Padded first) ≡ number_at input first
+  ends_padded some none = last_padded first g value b ((first + g) + 1) some none ∙ ends
+
+  pub ends_kept : ((b ≡ 0) × (g ≤ 0)) ⊎ (b ≡ 0 → ⊥) → Ok (number (value + ((b % 128) * 2 ^ (7 * g)) % 2 ^ 32) ((first + g) + 1)) ≡ number_at input first
+  ends_kept either = let f = four_at input bytes first g four more in last_kept first g value b ((first + g) + 1) f.few low either ∙ ends

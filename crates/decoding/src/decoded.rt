@@ -21,6 +21,7 @@ fn first_four(input: &[u8], at: usize) -> &[u8]
 }
 
 // The number that begins at an offset of the input. It has at most four bytes, and no byte outside the input is read.
+#[tactic(auto, using(crate::proofs::Decoding::so_far_none, crate::proofs::Decoding::so_far_more, crate::proofs::Decoding::four_at))]
 pub fn number_at(input: &[u8], at: usize) -> Result<Number, Fault>
     ensures { result ≡ number_at input.now at }
 {
