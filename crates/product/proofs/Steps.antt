@@ -109,15 +109,15 @@ module _ {E : Type 0} (p : Site) (law : Lawful p) (nought : E) (g : ℕ → ℕ 
       let value : v ≡ f' r j = ev ∙ ap (g r j) read ∙ sym (made g old r c j le) in
       rw (value, ea, e) (stored_more p law s long f f' r j h (λ k l w ne. unmade g old r c j k l le ne))
 
-  pub row_more : (now later : List E) (a r c d j : ℕ) → a ≤ r → j ≡ d
+  pub row_more : (now later : List E) (a r c d j row next : ℕ) → a ≤ r → j ≡ d → row ≡ r → next ≡ r + 1
       → now ≡ stored p (changed g a r c d (entry_of p nought s)) s
-      → later ≡ stored p (changed g r (r + 1) c j (entry_of p nought now)) now
-      → later ≡ stored p (changed g a (r + 1) c d (entry_of p nought s)) s
-  row_more now later a r c d j le ej e e' =
+      → later ≡ stored p (changed g row (row + 1) c j (entry_of p nought now)) now
+      → later ≡ stored p (changed g a next c d (entry_of p nought s)) s
+  row_more now later a r c d j row next le ej er en e e' =
       let old = entry_of p nought s in
       let f = changed g a r c d old in
       let f' = changed g r (r + 1) c d (entry_of p nought (stored p f s)) in
-      e' ∙ rw (ej, e) (stored_stored p law s long f f' ∙ stored_same p law s long f' (changed g a (r + 1) c d old)
+      e' ∙ rw (ej, er, en, e) (stored_stored p law s long f f' ∙ stored_same p law s long f' (changed g a (r + 1) c d old)
       (λ i j h. row_made g old a r c d i j (get_or (stored p f s) (p.cell i j) nought) le (stored_entry p law s long f i j nought h)))
 
 -- the change of the tile's rows and columns is what the triple makes of the table

@@ -6,6 +6,7 @@ ghost use Rattle.laws.specs.Stores.{entry_of, stored_terms};
 use kinds::Kind;
 use placement::Placement;
 use std::alloc::AllocError;
+use std::ops::Range;
 
 // The cell of an entry inside the table.
 pub(crate) fn cell_at<P: Placement>(placement: &P, row: u32, column: u32) -> usize
@@ -24,6 +25,7 @@ pub struct Held<'p, 's, P: Placement, E> {
     pub ghost long: { (P.site placement.now).span ≤ length store.now },
 }
 
+// By hand here and below, since a derive is refused over a ghost field for a type with a parameter.
 impl<P: Placement, E> Clone for Held<'_, '_, P, E> {
     ghost is_clone = { λ held copy. copy ≡ held };
 
@@ -65,26 +67,25 @@ fn plus_term<E: Kind>(sum: E, a: E, b: E) -> E
     sum.plus(a.times(b))
 }
 
-// An entry with the terms of the middle indices from one on and before another added, one at a time and in
-// ascending order: always what is there plus the next term.
+// An entry with the terms of a range of middle indices added, one at a time and in ascending order: always what is
+// there plus the next term.
 pub(crate) fn entry_sum<L: Placement, R: Placement, E: Kind + Copy>(
     left: Held<L, E>,
     right: Held<R, E>,
     row: u32,
     column: u32,
-    from: u32,
-    to: u32,
+    middles: &Range<u32>,
     entry: E,
 ) -> E
     requires row { row < (L.site left.placement.now).rows }
     requires column { column < (R.site right.placement.now).columns }
-    requires order { from ≤ to }
-    requires left { to ≤ (L.site left.placement.now).columns }
-    requires right { to ≤ (R.site right.placement.now).rows }
-    ensures { result ≡ added_between E.joined entry (stored_terms E.Kind (L.site left.entry.placement.now) (R.site right.entry.placement.now) left.entry.store.now right.entry.store.now row column) from to }
+    requires order { middles.now.start ≤ middles.now.end }
+    requires left { middles.now.end ≤ (L.site left.placement.now).columns }
+    requires right { middles.now.end ≤ (R.site right.placement.now).rows }
+    ensures { result ≡ added_between E.joined entry (stored_terms E.Kind (L.site left.entry.placement.now) (R.site right.entry.placement.now) left.entry.store.now right.entry.store.now row column) middles.now.start middles.now.end }
 {
     let mut sum = entry;
-    for middle in from..to {
+    for middle in middles.start..middles.end {
         sum = plus_term(sum, left.entry(row, middle), right.entry(middle, column));
     }
     sum

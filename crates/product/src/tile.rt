@@ -39,18 +39,11 @@ pub fn tile_product<L: Placement, R: Placement, S: Placement, E: Kind + Copy>(
     let rows = covered(sizes.rows, sizes.order, triple.row);
     let columns = covered(sizes.columns, sizes.order, triple.column);
     let middle = covered(sizes.middle, sizes.order, triple.middle);
-    for row in rows.start..rows.end {
+    for row in rows {
+        // A loop uses its range up, and the columns are gone over once for each row.
         for column in columns.start..columns.end {
             let cell = cell_at(target, row, column);
-            results[cell] = entry_sum(
-                left,
-                right,
-                row,
-                column,
-                middle.start,
-                middle.end,
-                results[cell],
-            );
+            results[cell] = entry_sum(left, right, row, column, &middle, results[cell]);
         }
     }
 }

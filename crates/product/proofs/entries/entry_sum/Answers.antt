@@ -7,6 +7,6 @@ loop-middle-preserved g c =
     term_more g.E.Kind.joined g.E.Kind.chained
     (entry_of (g.L.Placement.site c.args.left.placement.now) g.E.Kind.nought c.args.left.store.now)
     (entry_of (g.R.Placement.site c.args.right.placement.now) g.E.Kind.nought c.args.right.store.now)
-    c.args.row c.args.column c.args.entry c.args.from c.loop-middle.middle
+    c.args.row c.args.column c.args.entry c.args.middles.now.start c.loop-middle.middle
     c.loop-middle.sum c.entry.result c.entry-in-loop-middle.result c.plus_term-sum.result
     c.loop-middle.invariant c.entry.ensures c.entry-in-loop-middle.ensures c.plus_term-sum.ensures c.loop-middle.auto.middle
