@@ -1,20 +1,29 @@
--- What begin gives, by its tests.
-use Rattle.std.proofs.Common.{◌≡◌, ℕ, ◌<◌, ◌≤◌, Bool, true, false, Ok, Err, sym, ◌∙◌}
-use Rattle.std.proofs.lemmas.Bool.{le-leb, lt-leb}
+-- What begin gives, by what the check of a run answers.
+use Rattle.std.proofs.Common.{◌≡◌, ℕ, Bool, true, false, cond, nat_le, Ok, Err, Result, refl, arith}
+use Rattle.masked.specs.declared.refusal.Refusal.{Refusal}
 use Rattle.masked.specs.declared.refusal.Refusal.TheVariants.{Mismatch, TileOrder}
 use Rattle.calls.specs.Moments.{Trio, fits}
 use Rattle.trio.specs.declared.Idle.{Idle}
 use Rattle.trio.specs.Trios.{run_begun, not_begun, begin_result}
 
-module _ {L R S : Type 0} (t : Trio) (given : Idle L R S) (order : ℕ) (b : Bool) (e : b ≡ fits t) where
-  pub mismatched : b ≡ false → Err (not_begun given Mismatch) ≡ begin_result t given order
-  unfolding begin_result
-  mismatched h = let a = sym e ∙ h in rw a
+module _ {L R S : Type 0} (given : Idle L R S) (order : ℕ) {w : Result (Unit {0}) Refusal} where
+  begun_by : (b d : Bool) {u : Unit {0}} → w ≡ cond b (cond d (Ok tt) (Err TileOrder)) (Err Mismatch) → w ≡ Ok u
+      → Ok (run_begun given order) ≡ cond b (cond d (Ok (run_begun given order)) (Err (not_begun given TileOrder))) (Err (not_begun given Mismatch))
+  begun_by true true e o = refl
+  begun_by true false {u} e o = let y : ◌≡◌ {A = ℕ} 0 1 = cc in absurd (omega arith)
+  begun_by false d {u} e o = let y : ◌≡◌ {A = ℕ} 0 1 = cc in absurd (omega arith)
 
-  pub too_large : b ≡ true → 12 < order → Err (not_begun given TileOrder) ≡ begin_result t given order
-  unfolding begin_result
-  too_large h l = let a = sym e ∙ h in let d = lt-leb order 12 l in rw (a, d)
+  declined_by : (b d : Bool) {r : Refusal} → w ≡ cond b (cond d (Ok tt) (Err TileOrder)) (Err Mismatch) → w ≡ Err r
+      → Err (not_begun given r) ≡ cond b (cond d (Ok (run_begun given order)) (Err (not_begun given TileOrder))) (Err (not_begun given Mismatch))
+  declined_by true true {r} e o = let y : ◌≡◌ {A = ℕ} 0 1 = cc in absurd (omega arith)
+  declined_by true false {r} e o = let i : r ≡ TileOrder = cc in rw i refl
+  declined_by false d {r} e o = let i : r ≡ Mismatch = cc in rw i refl
 
-  pub begins : b ≡ true → order ≤ 12 → Ok (run_begun given order) ≡ begin_result t given order
-  unfolding begin_result
-  begins h l = let a = sym e ∙ h in let d = le-leb order 12 l in rw (a, d)
+  module _ (t : Trio) (e : w ≡ cond (fits t) (cond (nat_le order 12) (Ok tt) (Err TileOrder)) (Err Mismatch)) where
+    pub begins : {u : Unit {0}} → w ≡ Ok u → Ok (run_begun given order) ≡ begin_result t given order
+    unfolding begin_result
+    begins o = begun_by (fits t) (nat_le order 12) e o
+
+    pub declines : {r : Refusal} → w ≡ Err r → Err (not_begun given r) ≡ begin_result t given order
+    unfolding begin_result
+    declines o = declined_by (fits t) (nat_le order 12) e o

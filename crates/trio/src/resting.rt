@@ -30,7 +30,8 @@ impl<L: Placement, R: Placement, S: Placement> Idle<L, R, S> {
         }
     }
 
-    // The three stores are lent one by one here and below: a struct of them would ask for `&mut` where get needs `&`.
+    // The three stores are lent one by one here and below: the contract names each at entry and at the return by itself, and
+    // get and step only read some of them.
 
     // Writes one entry.
     pub fn put<E: Kind + Copy>(
@@ -45,11 +46,7 @@ impl<L: Placement, R: Placement, S: Placement> Idle<L, R, S> {
     ) -> Result<(), Refusal>
         ensures { Called E.Kind (idle_trio L.Placement R.Placement S.Placement self.now) (opened lefts.old rights.old results.old) (Put table row column value) (told result) (opened lefts.new rights.new results.new) }
     {
-        let named = Table::try_from(table)?;
-        if !self.tables.are_stored_in(lefts, rights, results) {
-            return Err(Refusal::Store);
-        }
-        match named {
+        match self.tables.table(lefts, rights, results, table)? {
             Table::Left => put_entry(&self.tables.left, lefts, row, column, value),
             Table::Right => put_entry(&self.tables.right, rights, row, column, value),
             Table::Result => put_entry(&self.tables.result, results, row, column, value),
@@ -68,11 +65,7 @@ impl<L: Placement, R: Placement, S: Placement> Idle<L, R, S> {
     ) -> Result<E, Refusal>
         ensures { Called E.Kind (idle_trio L.Placement R.Placement S.Placement self.now) (opened lefts.now rights.now results.now) (Get table row column) (get_answer result) (opened lefts.now rights.now results.now) }
     {
-        let named = Table::try_from(table)?;
-        if !self.tables.are_stored_in(lefts, rights, results) {
-            return Err(Refusal::Store);
-        }
-        match named {
+        match self.tables.table(lefts, rights, results, table)? {
             Table::Left => get_entry(Held::new(&self.tables.left, lefts), row, column),
             Table::Right => get_entry(Held::new(&self.tables.right, rights), row, column),
             Table::Result => get_entry(Held::new(&self.tables.result, results), row, column),
@@ -89,11 +82,7 @@ impl<L: Placement, R: Placement, S: Placement> Idle<L, R, S> {
     ) -> Result<(), Refusal>
         ensures { Called E.Kind (idle_trio L.Placement R.Placement S.Placement self.now) (opened lefts.old rights.old results.old) (Clear table) (told result) (opened lefts.new rights.new results.new) }
     {
-        let named = Table::try_from(table)?;
-        if !self.tables.are_stored_in(lefts, rights, results) {
-            return Err(Refusal::Store);
-        }
-        match named {
+        match self.tables.table(lefts, rights, results, table)? {
             Table::Left => clear_table(&self.tables.left, lefts),
             Table::Right => clear_table(&self.tables.right, rights),
             Table::Result => clear_table(&self.tables.result, results),
@@ -115,12 +104,10 @@ impl<L: Placement, R: Placement, S: Placement> Idle<L, R, S> {
     {
         let target = Table::try_from(to)?;
         let source = Table::try_from(from)?;
-        if to == from {
+        if target == source {
             return Err(Refusal::Table);
         }
-        if !self.tables.are_stored_in(lefts, rights, results) {
-            return Err(Refusal::Store);
-        }
+        self.tables.check_stores(lefts, rights, results)?;
         let Tables {
             left,
             right,
@@ -153,23 +140,17 @@ impl<L: Placement, R: Placement, S: Placement> Idle<L, R, S> {
     pub fn begin(self, order: u32) -> Result<Run<L, R, S>, Declined<L, R, S>>
         ensures { result ≡ begin_result (idle_trio L.Placement R.Placement S.Placement self) self order }
     {
-        if !self.tables.are_joined() {
-            return Err(Declined {
+        match self.tables.check_run(order) {
+            Ok(()) => Ok(Run {
+                tables: self.tables,
+                order,
+                made: 0,
+            }),
+            Err(refusal) => Err(Declined {
                 idle: self,
-                refusal: Refusal::Mismatch,
-            });
+                refusal,
+            }),
         }
-        if order > 12 {
-            return Err(Declined {
-                idle: self,
-                refusal: Refusal::TileOrder,
-            });
-        }
-        Ok(Run {
-            tables: self.tables,
-            order,
-            made: 0,
-        })
     }
 }
 

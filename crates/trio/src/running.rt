@@ -34,9 +34,7 @@ impl<L: Placement, R: Placement, S: Placement> Run<L, R, S> {
         ensures call { Called E.Kind (run_trio L.Placement R.Placement S.Placement self.old) (moment lefts.now rights.now results.old (run_mode self.old)) (Step count) (step_answer result) (moment lefts.now rights.now results.new (run_mode self.new)) }
         ensures tables { run_ended self.new ≡ run_ended self.old }
     {
-        if !self.tables.are_stored_in(lefts, rights, results) {
-            return Err(Refusal::Store);
-        }
+        self.tables.check_stores(lefts, rights, results)?;
         let sizes = self.tables.sizes(self.order);
         let total = walk::count(sizes);
         let made = self.made;

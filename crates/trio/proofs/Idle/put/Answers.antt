@@ -1,43 +1,51 @@
 use Rattle.std.proofs.Common.{sym, ◌∙◌}
 use Rattle.std.proofs.lemmas.Result.{err_from_is_err_and}
 use Rattle.calls.specs.declared.table.Table.TheVariants.{Left, Right, Result as Product}
+use Rattle.calls.specs.declared.call.Call.TheVariants.{Put}
+use Rattle.calls.specs.declared.call.Answer.TheVariants.{Refused}
+use Rattle.calls.specs.Tables.{table_numbered}
+use Rattle.calls.specs.Moments.{Called, opened, all_long}
 use Rattle.calls.proofs.Outcomes.{put_unnamed, put_short, put_made}
 use Rattle.trio.proofs.Laws.{all_lawful}
 use Rattle.trio.specs.Trios.{idle_trio}
-use Rattle.trio.proofs.Named.{named_as}
+use Rattle.trio.proofs.Named.{found_as, refused_by}
 use Rattle.trio.proofs.Idle.put.Goals as goal
 
-pub returns-in_err-named : goal.returns-in_err-named
-returns-in_err-named g c =
+pub returns-in_err-table : goal.returns-in_err-table
+returns-in_err-table g c =
+    let t = idle_trio g.L.Placement g.R.Placement g.S.Placement c.args.self.now in
+    let now = opened c.args.lefts.now c.args.rights.now c.args.results.now in
     let p = err_from_is_err_and c.from_residual.result c.from_residual.ensures.1 in
-    rw (p.1, p.2) (put_unnamed g.E.Kind (idle_trio g.L.Placement g.R.Placement g.S.Placement c.args.self.now) c.args.lefts.now c.args.rights.now c.args.results.now
-    c.args.table c.args.row c.args.column c.args.value c.in_err-named.field-0.0 (sym c.try_from.ensures ∙ c.in_err-named.was))
-
-pub returns-then-not-are_stored_in : goal.returns-then-not-are_stored_in
-returns-then-not-are_stored_in g c =
-    put_short g.E.Kind (idle_trio g.L.Placement g.R.Placement g.S.Placement c.args.self.now) c.args.lefts.now c.args.rights.now c.args.results.now
-    c.args.table c.args.row c.args.column c.args.value c.in_ok-named.named (sym c.try_from.ensures ∙ c.in_ok-named.was) (sym c.are_stored_in.ensures ∙ c.if-not-are_stored_in.true)
+    rw (p.1, p.2) (refused_by (λ r. Called g.E.Kind t now (Put c.args.table c.args.row c.args.column c.args.value) (Refused r) now) (table_numbered c.args.table) (all_long t c.args.lefts.now c.args.rights.now c.args.results.now)
+    c.in_err-table.field-0.0 (sym c.in_err-table.was ∙ c.table.ensures)
+    (put_unnamed g.E.Kind t c.args.lefts.now c.args.rights.now c.args.results.now c.args.table c.args.row c.args.column c.args.value) (put_short g.E.Kind t c.args.lefts.now c.args.rights.now c.args.results.now c.args.table c.args.row c.args.column c.args.value))
 
 pub returns-in-Left : goal.returns-in-Left
 returns-in-Left g c =
+    let h = found_as c.args.table (all_long (idle_trio g.L.Placement g.R.Placement g.S.Placement c.args.self.now) c.args.lefts.now c.args.rights.now c.args.results.now)
+    c.table.ensures c.in_ok-table.was c.in-Left.is in
     put_made g.E.Kind (idle_trio g.L.Placement g.R.Placement g.S.Placement c.args.self.now) c.args.lefts.now c.args.rights.now c.args.results.now
     c.args.table c.args.row c.args.column c.args.value
     (all_lawful g.L.Placement g.R.Placement g.S.Placement g.met.L.Placement.lawful g.met.R.Placement.lawful g.met.S.Placement.lawful c.args.self.now.tables)
-    Left (named_as c.args.table c.try_from.ensures c.in_ok-named.was c.in-Left.is) (sym c.are_stored_in.ensures ∙ c.if-not-are_stored_in.false)
+    Left h.0 h.1
     c.put_entry.result c.put_entry.new.store c.put_entry.ensures.answer c.put_entry.ensures.cells
 
 pub returns-in-Right : goal.returns-in-Right
 returns-in-Right g c =
+    let h = found_as c.args.table (all_long (idle_trio g.L.Placement g.R.Placement g.S.Placement c.args.self.now) c.args.lefts.now c.args.rights.now c.args.results.now)
+    c.table.ensures c.in_ok-table.was c.in-Right.is in
     put_made g.E.Kind (idle_trio g.L.Placement g.R.Placement g.S.Placement c.args.self.now) c.args.lefts.now c.args.rights.now c.args.results.now
     c.args.table c.args.row c.args.column c.args.value
     (all_lawful g.L.Placement g.R.Placement g.S.Placement g.met.L.Placement.lawful g.met.R.Placement.lawful g.met.S.Placement.lawful c.args.self.now.tables)
-    Right (named_as c.args.table c.try_from.ensures c.in_ok-named.was c.in-Right.is) (sym c.are_stored_in.ensures ∙ c.if-not-are_stored_in.false)
+    Right h.0 h.1
     c.put_entry-in-Right.result c.put_entry-in-Right.new.store c.put_entry-in-Right.ensures.answer c.put_entry-in-Right.ensures.cells
 
 pub returns-in-Result : goal.returns-in-Result
 returns-in-Result g c =
+    let h = found_as c.args.table (all_long (idle_trio g.L.Placement g.R.Placement g.S.Placement c.args.self.now) c.args.lefts.now c.args.rights.now c.args.results.now)
+    c.table.ensures c.in_ok-table.was c.in-Result.is in
     put_made g.E.Kind (idle_trio g.L.Placement g.R.Placement g.S.Placement c.args.self.now) c.args.lefts.now c.args.rights.now c.args.results.now
     c.args.table c.args.row c.args.column c.args.value
     (all_lawful g.L.Placement g.R.Placement g.S.Placement g.met.L.Placement.lawful g.met.R.Placement.lawful g.met.S.Placement.lawful c.args.self.now.tables)
-    Product (named_as c.args.table c.try_from.ensures c.in_ok-named.was c.in-Result.is) (sym c.are_stored_in.ensures ∙ c.if-not-are_stored_in.false)
+    Product h.0 h.1
     c.put_entry-in-Result.result c.put_entry-in-Result.new.store c.put_entry-in-Result.ensures.answer c.put_entry-in-Result.ensures.cells
