@@ -54,7 +54,7 @@ impl<L: Placement, R: Placement, S: Placement> Tables<L, R, S> {
         Ok(named)
     }
 
-    // Whether a run of a tile order can begin.
+    // Refuses where a run of a tile order cannot begin. The shapes are judged before the order.
     pub(crate) fn check_run(&self, order: u32) -> Result<(), Refusal>
         ensures { result ≡ (if fits (trio_of L.Placement R.Placement S.Placement self.now) then (if nat_le order 12 then Ok tt else Err TileOrder) else Err Mismatch) }
     {
