@@ -13,7 +13,7 @@ use std::alloc::{AllocError, Global};
 
 // A side of 1 to 6.
 fn random_side(source: &mut Source) -> u32 {
-    source.below(6).saturating_add(1)
+    source.up_to(6)
 }
 
 // Any shape.

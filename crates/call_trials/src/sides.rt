@@ -51,7 +51,7 @@ impl Sort {
 
     // A placement of the sort.
     fn layout(self, source: &mut Source, shape: Shape) -> Result<Layout, Refusal> {
-        let more = source.below(3).saturating_add(1);
+        let more = source.up_to(3);
         match self {
             Sort::Rows => named('R', shape, 0),
             Sort::Columns => named('C', shape, 0),

@@ -1,7 +1,7 @@
 // Numbers that look random and are the same at every run, and what is drawn by them.
 #![tactic(auto)]
 
-ghost use Rattle.std.specs.Prelude.{◌≡◌, ◌^◌, ◌<◌, length, Contains, true};
+ghost use Rattle.std.specs.Prelude.{◌≡◌, ◌^◌, ◌<◌, ◌≤◌, length, Contains, true};
 
 pub trait Draws {
     // The next 32 bits of the sequence.
@@ -12,6 +12,14 @@ pub trait Draws {
         ensures { 0 < limit → result < limit }
     {
         self.next().checked_rem(limit).unwrap_or(0)
+    }
+
+    // A number from 1 up to the limit, or 1 where the limit is 0.
+    fn up_to(&mut self, limit: u32) -> u32
+        ensures least { 0 < result }
+        ensures most { 0 < limit → result ≤ limit }
+    {
+        self.below(limit).saturating_add(1)
     }
 
     // True once in so many times.

@@ -59,10 +59,11 @@ impl<E: Sample> Stored<E> {
 
     // The entry of the table, or zero where there is none.
     fn entry(&self, row: u32, column: u32) -> E {
-        match self.layout.address(row, column) {
-            Ok(cell) => self.store.get(cell as usize).copied().unwrap_or(E::zero()),
-            Err(_) => E::zero(),
-        }
+        self.layout
+            .address(row, column)
+            .ok()
+            .and_then(|cell| self.store.get(cell as usize).copied())
+            .unwrap_or(E::zero())
     }
 }
 
@@ -110,10 +111,6 @@ fn full_sum<E: Sample>(left: &Stored<E>, right: &Stored<E>, row: u32, column: u3
     old.plus(sum)
 }
 
-fn random_side(source: &mut Source) -> u32 {
-    source.below(6).saturating_add(1)
-}
-
 fn random_layout(source: &mut Source, rows: u32, columns: u32) -> Result<Layout, Refusal> {
     let letter = source.one_of(&LETTERS);
     let inner = if letter == 'H' { source.below(3) } else { 0 };
@@ -128,11 +125,11 @@ struct Layouts {
     result: Layout,
 }
 
-// Random layouts of random sizes that fit together.
+// Random layouts that fit together, of sides of 1 to 6.
 fn random_layouts(source: &mut Source) -> Result<Layouts, Refusal> {
-    let rows = random_side(source);
-    let columns = random_side(source);
-    let middle = random_side(source);
+    let rows = source.up_to(6);
+    let columns = source.up_to(6);
+    let middle = source.up_to(6);
     Ok(Layouts {
         left: random_layout(source, rows, middle)?,
         right: random_layout(source, middle, columns)?,

@@ -143,18 +143,12 @@ fn judged(input: &[u8]) -> Result<(), Fault> {
 // Whether a layout is written as the very bytes that it was read from.
 fn is_written_as(layout: &Layout, input: &[u8]) -> bool {
     let mut bytes = [0u8; LONGEST];
-    match write(layout, &mut bytes) {
-        Ok(length) => bytes.get(..length) == Some(input),
-        Err(_) => false,
-    }
+    write(layout, &mut bytes).is_ok_and(|length| bytes.get(..length) == Some(input))
 }
 
 // Whether the reader accepts a string. What it accepts has to be written again byte for byte.
 fn is_accepted(input: &[u8]) -> bool {
-    match read(input) {
-        Ok(layout) => is_written_as(&layout, input),
-        Err(_) => false,
-    }
+    read(input).is_ok_and(|layout| is_written_as(&layout, input))
 }
 
 // Whether the reader finds what the second reading does.
@@ -193,9 +187,7 @@ pub fn random_strings(heap: Global) -> Tally {
     let mut source = Source::new(heap, 0x9e37_79b9_7f4a_7c15);
     for _ in 0..100_000u32 {
         let mut bytes = [0u8; 15];
-        for byte in bytes.iter_mut() {
-            *byte = random_byte(&mut source);
-        }
+        bytes.fill_with(|| random_byte(&mut source));
         let length = source.below(16) as usize;
         tally.note(agrees(&bytes[..length]));
     }
@@ -207,8 +199,8 @@ fn random_layout(source: &mut Source) -> Result<Layout, Refusal> {
     let letter = source.one_of(&LETTERS);
     let limit = if source.one_in(2) { 8 } else { 4096 };
     let shape = Shape {
-        rows: source.below(limit).saturating_add(1),
-        columns: source.below(limit).saturating_add(1),
+        rows: source.up_to(limit),
+        columns: source.up_to(limit),
     };
     let inner = if letter == 'H' { source.below(13) } else { 0 };
     named(letter, shape, inner)
