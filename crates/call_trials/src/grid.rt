@@ -1,10 +1,11 @@
-// A table as a plain list of its rows. The shape stands beside them, since the length of a list is of another type.
+// A table as a plain list of its rows. The shape stands beside them: the lists have their lengths as usize, the trio asks in
+// u32, and a table with no row would not say how many columns it has.
 use crate::sample::{Sample, samples};
 use crate::source::Source;
 use placement::Shape;
 use std::alloc::{AllocError, Global};
 
-#[derive(Drop)]
+#[derive(Clone, Drop)]
 pub struct Grid<E> {
     shape: Shape,
     rows: Vec<Vec<E>>,
@@ -14,9 +15,7 @@ impl<E: Sample> Grid<E> {
     // A table of random entries.
     pub fn random(source: &mut Source, shape: Shape) -> Result<Grid<E>, AllocError> {
         let mut rows = Vec::new(source.heap);
-        for _ in 0..shape.rows {
-            rows.push(samples(source, shape.columns)?)?;
-        }
+        rows.try_resize_with(shape.rows as usize, || samples(source, shape.columns))?;
         Ok(Grid { shape, rows })
     }
 
@@ -40,25 +39,12 @@ impl<E: Sample> Grid<E> {
         self.entry(row, column).unwrap_or(E::zero())
     }
 
-    // Makes all entries zero.
+    // Makes all entries zero. It is no `fill`, which asks for a clone that cannot fail; a bound of Copy does not say that.
     pub fn clear(&mut self) {
+        let zero = E::zero();
         for row in self.rows.iter_mut() {
-            for entry in row.iter_mut() {
-                *entry = E::zero();
-            }
+            row.fill_with(|| zero);
         }
-    }
-
-    // The same table once more.
-    pub fn copied(&self, heap: Global) -> Result<Grid<E>, AllocError> {
-        let mut rows = Vec::new(heap);
-        for row in self.rows.iter() {
-            rows.push(Vec::from_slice(heap, row.as_slice())?)?;
-        }
-        Ok(Grid {
-            shape: self.shape,
-            rows,
-        })
     }
 
     // The table with rows and columns exchanged.
@@ -67,11 +53,10 @@ impl<E: Sample> Grid<E> {
             rows: self.shape.columns,
             columns: self.shape.rows,
         };
-        let mut rows = Vec::new(heap);
-        for column in 0..shape.rows {
-            let turned = (0..shape.columns).map(|row| self.or_zero(row, column));
-            rows.push(turned.collect(heap)?)?;
-        }
+        let turned = |column: u32| (0..shape.columns)
+            .map(|row| self.or_zero(row, column))
+            .collect(heap);
+        let rows = (0..shape.rows).map(turned).try_collect(heap)?;
         Ok(Grid { shape, rows })
     }
 }

@@ -142,9 +142,8 @@ pub fn script_of<E: Sample>(
     model: &mut Model<E>,
     calls: &[Call<E>],
 ) -> Result<Vec<Told<E>>, AllocError> {
-    let mut script = Vec::new(heap);
-    for call in calls {
-        script.push(Told::by(model, *call)?)?;
-    }
-    Ok(script)
+    calls
+        .iter()
+        .map(|call| Told::by(model, *call))
+        .try_collect(heap)
 }

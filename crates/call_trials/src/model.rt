@@ -128,7 +128,7 @@ impl<E: Sample> Model<E> {
         let taken = if transposed {
             self.table(source).transposed(self.heap)?
         } else {
-            self.table(source).copied(self.heap)?
+            self.table(source).clone()?
         };
         if self.table(target).shape() != taken.shape() {
             return Err(Stop::Declined(Refusal::Mismatch));

@@ -4,7 +4,8 @@ use draws::Draws;
 use kinds::{Connection, Count, Kind, TravelTime};
 use std::alloc::AllocError;
 
-// How a trial makes an element of any number.
+// How a trial makes an element of any number. The trait of `trials` makes other travel times, and a type has one impl of a
+// trait.
 pub trait Sample: Kind + Copy + Drop + PartialEq {
     fn sample(n: u32) -> Self;
 }
@@ -32,12 +33,9 @@ impl Sample for Connection {
     }
 }
 
-// A list of random elements. It is a loop, since a closure whose result is of a type parameter that nothing it is given
-// names gets no proof yet.
+// A list of random elements.
 pub fn samples<E: Sample>(source: &mut Source, length: u32) -> Result<Vec<E>, AllocError> {
     let mut list = Vec::new(source.heap);
-    for _ in 0..length {
-        list.push(E::sample(source.next()))?;
-    }
+    list.resize_with(length as usize, || E::sample(source.next()))?;
     Ok(list)
 }

@@ -1,4 +1,5 @@
-// Numbers that look random and are the same at every run: steps of one odd number, each stirred by two products.
+// Numbers that look random and are the same at every run: steps of one odd number, each stirred by two products. `trials`
+// has a generator of its own, since each has another sequence, and what is tried and printed hangs on it.
 use draws::Draws;
 use std::alloc::Global;
 

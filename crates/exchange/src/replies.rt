@@ -14,10 +14,7 @@ pub struct Reply<E> {
 
 // How many answers are the same at both sites.
 pub fn compared<E: Shown>(replies: &[Reply<E>]) -> Tally {
-    replies
-        .iter()
-        .map(|reply| reply.office == reply.router)
-        .fold(Tally::new(), Tally::noting)
+    Tally::of(replies.iter().map(|reply| reply.office == reply.router))
 }
 
 // An answer in words.
@@ -43,7 +40,8 @@ impl<E: Shown> fmt::Display for Told<E> {
     }
 }
 
-// How much of a width is left after a word and a space.
+// How much of a width is left after a word and a space. The width is taken apart, since padding the whole would need a String,
+// and `fmt` has no heap.
 fn room_after(word: &str, width: Option<usize>) -> usize {
     width
         .unwrap_or(0)

@@ -10,7 +10,8 @@ pub trait Shown: Kind + Copy + Drop + PartialEq {
     // What every cell holds before the first call, so that a cell that was written can be told from one that was not.
     fn marker() -> Self;
 
-    // How an element other than zero is written in a table that has no room for units.
+    // How an element other than zero is written in a table that has no room for units. It is no Display, since the kinds of
+    // element are of another crate, which alone can give them one; so times and counts have the same body twice.
     fn word<W: fmt::Write>(&self, f: &mut fmt::Formatter<W>) -> fmt::Result;
 }
 

@@ -112,12 +112,12 @@ impl<E: Shown> Site<E> {
 
     // How many of the cells that no entry has still hold the marker.
     pub fn idle_cells(&self) -> Tally {
-        [&self.lefts, &self.rights, &self.results]
+        let markers = [&self.lefts, &self.rights, &self.results]
             .into_iter()
             .flat_map(|store| (0..u32::MAX).zip(store.iter()))
             .filter(|(cell, _)| self.layout.owner(*cell).is_none())
-            .map(|(_, element)| *element == E::marker())
-            .fold(Tally::new(), Tally::noting)
+            .map(|(_, element)| *element == E::marker());
+        Tally::of(markers)
     }
 }
 

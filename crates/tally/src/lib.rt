@@ -1,7 +1,8 @@
 // How many of the things that were looked at are as they should be.
 #![tactic(auto)]
 
-ghost use Rattle.std.specs.Prelude.{◌≡◌, ◌+◌, ◌-◌, ◌^◌, ◌≤◌, ◌==◌, min, if◌then◌else◌};
+ghost use Rattle.std.specs.Prelude.{◌≡◌, ◌+◌, ◌-◌, ◌^◌, ◌≤◌, ◌==◌, min, if◌then◌else◌, List, Bool, length, filter};
+ghost use Rattle.std.specs.Iterator.{Drains, IsFinite};
 
 use std::fmt;
 
@@ -37,6 +38,22 @@ impl Tally {
         ensures all { self.new.all ≡ min (self.old.all + 1) (2 ^ 64 - 1) }
     {
         *self = self.noting(is_good);
+    }
+
+    // What is found by looking at all of the given cases, each of which is true where it is as it should be.
+    pub fn of<I: Iterator<Item = bool>>(cases: I) -> Tally
+        requires can { I.can_next cases }
+        requires finite { IsFinite (I.remaining cases) }
+        ensures { (xs : List Bool)
+            × Drains I.next_gives cases xs
+            × (result.good ≡ min (length (filter (λ x. x) xs)) (2 ^ 64 - 1))
+            × (result.all ≡ min (length xs) (2 ^ 64 - 1)) }
+    {
+        let mut tally = Tally::new();
+        for is_good in cases {
+            tally.note(is_good);
+        }
+        tally
     }
 
     // This and another tally taken together.

@@ -68,12 +68,10 @@ impl Order {
                 }
             }
         }
-        let owners = (0..=largest.min(100_000))
-            .filter_map(|cell| {
-                let (row, column) = layout.owner(cell)?;
-                Some(self.cell(row, column) == cell)
-            })
-            .fold(Tally::new(), Tally::noting);
+        let owners = Tally::of((0..=largest.min(100_000)).filter_map(|cell| {
+            let (row, column) = layout.owner(cell)?;
+            Some(self.cell(row, column) == cell)
+        }));
         let entries = self.shape.rows.wrapping_mul(self.shape.columns);
         tally.note(layout.span() == largest.wrapping_add(1));
         tally.note(owners.all == u64::from(entries));

@@ -11,7 +11,8 @@ use std::alloc::{AllocError, Global};
 use tally::Tally;
 use walk::{Sizes, count, triple_at};
 
-// How a trial makes an element of any number. `call_trials` has a trait of its own, since it draws travel times otherwise.
+// How a trial makes an element of any number. `call_trials` has a trait of its own: it makes other travel times of a number,
+// a type has one impl of a trait, and with one trait the trials of one of the two would try other tables.
 pub trait Sample: Kind + Copy + Drop + PartialEq {
     fn sample(n: u32) -> Self;
 }
@@ -47,13 +48,11 @@ struct Stored<E> {
 }
 
 impl<E: Sample> Stored<E> {
-    // A table with all cells filled. It is a loop, since a closure whose result is of a type parameter that nothing it is
-    // given names gets no proof yet.
+    // A table with all cells filled.
     fn random(source: &mut Source, layout: Layout) -> Result<Stored<E>, AllocError> {
         let mut store = Vec::new(source.heap);
-        for _ in 0..layout.span().saturating_add(source.below(4)) {
-            store.push(E::sample(source.next()))?;
-        }
+        let cells = layout.span().saturating_add(source.below(4)) as usize;
+        store.resize_with(cells, || E::sample(source.next()))?;
         Ok(Stored { layout, store })
     }
 
@@ -113,7 +112,7 @@ fn full_sum<E: Sample>(left: &Stored<E>, right: &Stored<E>, row: u32, column: u3
 
 fn random_layout(source: &mut Source, rows: u32, columns: u32) -> Result<Layout, Refusal> {
     let letter = source.one_of(&LETTERS);
-    let inner = if letter == 'H' { source.below(3) } else { 0 };
+    let inner = source.inner(letter, 3);
     named(letter, Shape { rows, columns }, inner)
 }
 
@@ -152,14 +151,12 @@ fn one_product<E: Sample>(source: &mut Source, layouts: Layouts) -> Result<Tally
         order,
     );
     let cells = (0..u32::MAX).zip(before.iter().zip(made.store.iter()));
-    Ok(
-        cells
-            .map(|(cell, (old, new))| match layouts.result.owner(cell) {
-                Some((row, column)) => *new == full_sum(&left, &right, row, column, *old),
-                None => new == old,
-            })
-            .fold(Tally::new().noting(is_made), Tally::noting),
-    )
+    let mut tally = Tally::of(cells.map(|(cell, (old, new))| match layouts.result.owner(cell) {
+        Some((row, column)) => *new == full_sum(&left, &right, row, column, *old),
+        None => new == old,
+    }));
+    tally.note(is_made);
+    Ok(tally)
 }
 
 // Finished products of one kind.

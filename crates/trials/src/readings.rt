@@ -202,7 +202,7 @@ fn random_layout(source: &mut Source) -> Result<Layout, Refusal> {
         rows: source.up_to(limit),
         columns: source.up_to(limit),
     };
-    let inner = if letter == 'H' { source.below(13) } else { 0 };
+    let inner = source.inner(letter, 13);
     named(letter, shape, inner)
 }
 

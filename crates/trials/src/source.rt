@@ -1,4 +1,5 @@
-// Numbers that look random and are the same at every run.
+// Numbers that look random and are the same at every run: three shifts a number. `call_trials` has a generator of its own,
+// since each has another sequence, and what is tried and printed hangs on it.
 use draws::Draws;
 use std::alloc::Global;
 
@@ -15,6 +16,11 @@ pub struct Source {
 impl Source {
     pub fn new(heap: Global, seed: u64) -> Source {
         Source { heap, state: seed }
+    }
+
+    // The inner width of a named order, below the limit. Only H takes one.
+    pub fn inner(&mut self, letter: char, limit: u32) -> u32 {
+        if letter == 'H' { self.below(limit) } else { 0 }
     }
 }
 
