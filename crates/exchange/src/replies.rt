@@ -40,8 +40,8 @@ impl<E: Shown> fmt::Display for Told<E> {
     }
 }
 
-// How much of a width is left after a word and a space. The width is taken apart, since padding the whole would need a String,
-// and `fmt` has no heap.
+// How much of a width is left after a word and a space. The width is taken apart, since padding the whole would need a
+// String, and `fmt` has no heap.
 fn room_after(word: &str, width: Option<usize>) -> usize {
     width
         .unwrap_or(0)

@@ -21,7 +21,7 @@ impl Tally {
         Tally { good: 0, all: 0 }
     }
 
-    // Looks at one thing more, as a step of a fold. Both numbers stop at the largest that they can hold.
+    // Looks at one thing more, and hands on what is found. Both numbers stop at the largest that they can hold.
     pub fn noting(self, is_good: bool) -> Tally
         ensures good { result.good ≡ (if is_good then min (self.good + 1) (2 ^ 64 - 1) else self.good) }
         ensures all { result.all ≡ min (self.all + 1) (2 ^ 64 - 1) }
