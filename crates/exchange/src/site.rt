@@ -145,6 +145,7 @@ pub fn make_both<E: Shown>(
         router.results.as_mut_slice(),
         calls.as_slice(),
     )?;
+    // Should a list of answers end early, fewer are compared, and the number that is printed says so.
     let at_office = outcomes.first.answers.iter();
     let at_router = outcomes.second.answers.iter();
     questions

@@ -1,7 +1,7 @@
 // How many of the things that were looked at are as they should be.
 #![tactic(auto)]
 
-ghost use Rattle.std.specs.Prelude.{◌≡◌, ◌+◌, ◌-◌, ◌^◌, ◌≤◌, ◌==◌, min, if◌then◌else◌, List, Bool, length, filter};
+ghost use Rattle.std.specs.Prelude.{◌≡◌, ◌+◌, ◌-◌, ◌^◌, ◌≤◌, ◌==◌, min, if◌then◌else◌, List, ◌∷◌, ◌++◌, Bool, Some, length, filter, decimal};
 ghost use Rattle.std.specs.Iterator.{Drains, IsFinite};
 
 use std::fmt;
@@ -82,7 +82,10 @@ impl Tally {
     }
 }
 
+// As in "3 of 4".
 impl fmt::Display for Tally {
+    ghost output = { λ t. Some (decimal t.good ++ (32 ∷ 111 ∷ 102 ∷ 32 ∷ decimal t.all)) };
+
     fn fmt<W: fmt::Write>(&self, f: &mut fmt::Formatter<W>) -> fmt::Result {
         let Tally { good, all } = *self;
         write!(f, "{good} of {all}")
