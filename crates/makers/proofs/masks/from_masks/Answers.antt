@@ -1,17 +1,7 @@
 use Rattle.std.proofs.Common.{sym, arith}
-use Rattle.makers.proofs.Kept.{shaped_means, Made, made}
+use Rattle.makers.proofs.Kept.{Made, made}
 use Rattle.makers.proofs.masks.from_masks.Goals as goal
 use Rattle.makers.proofs.masks.from_masks.Goals.{Else-row_mask-column_mask-ne0}
-
-pub lowest-row_mask-requires : goal.lowest-row_mask-requires
-lowest-row_mask-requires c =
-    let s = shaped_means c.args.shape.rows c.args.shape.columns (sym c.if-not-is_allowed.ensures) in
-    (s.0, omega (arith, c.width-row_width.ensures.value, c.if-row_mask-row_width.false))
-
-pub lowest-column_mask-requires : goal.lowest-column_mask-requires
-lowest-column_mask-requires c =
-    let s = shaped_means c.args.shape.rows c.args.shape.columns (sym c.if-not-is_allowed.ensures) in
-    (s.1, omega (arith, c.width-column_width.ensures.value, c.if-column_mask-column_width.false))
 
 all : (c : Else-row_mask-column_mask-ne0) → Made c.args.shape.rows c.args.shape.columns c.args.row_mask c.args.column_mask c.lowest-row_mask.result c.lowest-column_mask.result
 all c =

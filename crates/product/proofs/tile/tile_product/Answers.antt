@@ -33,16 +33,6 @@ loop-column-init g c =
     let long : p.span ≤ length c.loop-row.results = omega (arith, c.requires.tables.result_store, c.loop-row.auto.results) in
     no_column p (g.met.S.Placement.lawful c.args.target.now) g.E.Kind.nought change c.loop-row.results long c.in-Some.row c.covered-columns.result.start
 
-pub cell_at-cell-requires-clause-row : goal.cell_at-cell-requires-clause-row
-cell_at-cell-requires-clause-row g c =
-    let last = ap (λ (r : Range ℕ). r.end) c.into_iter-row-iterator.ensures.into_iter_gives in
-    omega (arith, c.requires.tables.result_rows, c.covered-rows.ensures.end, last, c.loop-row.invariant.0, c.in-Some.ensures.steps)
-
-pub entry_sum-requires-clause-row : goal.entry_sum-requires-clause-row
-entry_sum-requires-clause-row g c =
-    let last = ap (λ (r : Range ℕ). r.end) c.into_iter-row-iterator.ensures.into_iter_gives in
-    omega (arith, c.requires.tables.left_rows, c.covered-rows.ensures.end, last, c.loop-row.invariant.0, c.in-Some.ensures.steps)
-
 pub entry_sum-requires-clause-order : goal.entry_sum-requires-clause-order
 entry_sum-requires-clause-order g c =
     let r = room (g.met.L.Placement.lawful c.args.left.placement.now) (g.met.R.Placement.lawful c.args.right.placement.now) c.requires.tables c.requires.triple in

@@ -2,9 +2,6 @@ use Rattle.std.proofs.Common.{arith}
 use Rattle.writer.proofs.Numbers.{length_small, length_large, length_five}
 use Rattle.writer.proofs.number.+number_len.Goals as goal
 
-pub overflow_add-result : goal.overflow_add-result
-overflow_add-result t c = omega (arith, c.number_len.ensures.short)
-
 pub returns-then-n-lt128 : goal.returns-then-n-lt128
 returns-then-n-lt128 t c = record { len = omega (arith, length_small c.args.n (omega arith)); short = omega arith }
 

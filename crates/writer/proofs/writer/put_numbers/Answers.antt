@@ -1,8 +1,8 @@
-use Rattle.std.proofs.Common.{◌+◌, ◌++◌, length, get_or, take, drop, sym, ap, ◌∙◌, arith, length-append, length-take, length-drop, take_all}
+use Rattle.std.proofs.Common.{◌+◌, length, get_or, take, sym, ap, ◌∙◌, arith, length-append, length-take, length-drop}
 use Rattle.writer.specs.Descriptors.{in_form}
 use Rattle.writer.specs.Numbers.{groups}
 use Rattle.writer.proofs.Forms.{form_more, form_front}
-use Rattle.writer.proofs.Writes.{Done, done_more, done_as, written_from}
+use Rattle.writer.proofs.Writes.{done_more, done_as, written_from}
 use Rattle.writer.proofs.writer.put_numbers.Goals as goal
 
 pub put_number-end-requires : goal.put_number-end-requires
@@ -22,9 +22,3 @@ loop-n-preserved c =
     (done_more c.args.bytes.now (in_form (take i ns)) (groups (get_or ns i 0)) c.loop-n.bytes _ c.loop-n.end _ c.loop-n.invariant
     (omega (arith, c.put_number-end.ensures.len))
     (written_from c.loop-n.bytes c.put_number-end.new.bytes c.loop-n.end (get_or ns i 0) (omega (arith, c.requires)) c.put_number-end.ensures.after))
-
-pub returns : goal.returns
-returns c =
-    let all = take_all c.loop-n.n-index c.args.numbers.now c.loop-n-test.false in
-    let d : Done c.args.bytes.now (in_form c.args.numbers.now) c.loop-n.end c.loop-n.bytes = done_as c.args.bytes.now _ _ _ _ (ap in_form all) c.loop-n.invariant in
-    record { end = d.0; after = d.1 ∙ ap (λ k. in_form c.args.numbers.now ++ drop k c.args.bytes.now) d.0 }
