@@ -33,6 +33,7 @@ fn asked(line: &[u8]) -> Result<Layout, Refusal>
 fn push_layout(out: &mut String, layout: &Layout) -> Result<(), AllocError>
     ensures { OnOk result (string_bytes out.new ≡ string_bytes out.old ++ plan_text (layout_plan layout.now)) }
 {
+    // The writer puts a descriptor into bytes that are lent to it.
     let mut bytes = [0u8; LONGEST];
     let len = write(layout, &mut bytes).unwrap();
     let descriptor = Hex(&bytes[..len]);
@@ -65,6 +66,7 @@ pub fn describe(heap: Global, input: &[u8]) -> Result<String, AllocError>
 {
     let mut out = String::new(heap);
     let mut rest = &input[..input.len().min(LIMIT)];
+    // A line and what follows it come as one answer, and nothing is counted.
     while let Some((line, after)) = split_line(rest) {
         push_answer(&mut out, line)?;
         rest = after;

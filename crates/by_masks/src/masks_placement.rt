@@ -24,6 +24,7 @@ impl Placement for Masks {
         row_part + column_part + 1
     }
 
+    // Two comparisons, here as in `by_strides`: a method that makes them would be no plainer.
     fn address(&self, row: u32, column: u32) -> Result<u32, Refusal> {
         if row >= self.shape.rows || column >= self.shape.columns {
             return Err(Refusal::Outside);

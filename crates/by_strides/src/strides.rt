@@ -15,6 +15,7 @@ pub struct Strides<A: Axis> {
     pub ghost legal: { LinesFit A.turns shape.rows shape.columns stride },
 }
 
+// By hand here and below, since a derive is refused over a ghost field for a type with a parameter.
 impl<A: Axis> Copy for Strides<A> {}
 
 impl<A: Axis> Clone for Strides<A> {

@@ -123,7 +123,7 @@ fn random_call<E: Sample>(source: &mut Source, model: &Model<E>) -> Call<E> {
     }
 }
 
-// 100 to 300 calls, each made on the model as soon as it is drawn.
+// 100 to 300 calls, each made on the model as soon as it is drawn: the list and the model grow together.
 pub fn random_script<E: Sample>(
     source: &mut Source,
     model: &mut Model<E>,

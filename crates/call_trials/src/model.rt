@@ -39,6 +39,16 @@ pub struct Model<E> {
     finished: u64,
 }
 
+// The table of a number, by the description and not by the library: 0 left, 1 right, 2 result.
+fn numbered(number: u32) -> Result<Table, Refusal> {
+    match number {
+        0 => Ok(Table::Left),
+        1 => Ok(Table::Right),
+        2 => Ok(Table::Result),
+        _ => Err(Refusal::Table),
+    }
+}
+
 // Whether a number is one of those that a tile covers.
 fn is_covered(n: u32, tile: u32, side: u32) -> bool {
     n.checked_div(side) == Some(tile)
@@ -95,7 +105,7 @@ impl<E: Sample> Model<E> {
 
     // Refusals 15, 16, 17, and else writes an entry.
     fn put(&mut self, table: u32, row: u32, column: u32, value: E) -> Result<(), Refusal> {
-        let table = Table::try_from(table)?;
+        let table = numbered(table)?;
         self.stored()?;
         let grid = self.tables.of_mut(table);
         *grid.entry_mut(row, column).ok_or(Refusal::Outside)? = value;
@@ -104,14 +114,14 @@ impl<E: Sample> Model<E> {
 
     // Refusals 15, 16, 17, and else the entry.
     fn get(&self, table: u32, row: u32, column: u32) -> Result<E, Refusal> {
-        let table = Table::try_from(table)?;
+        let table = numbered(table)?;
         self.stored()?;
         self.table(table).entry(row, column).ok_or(Refusal::Outside)
     }
 
     // Refusals 15, 16, and else all entries become zero.
     fn clear(&mut self, table: u32) -> Result<(), Refusal> {
-        let table = Table::try_from(table)?;
+        let table = numbered(table)?;
         self.stored()?;
         self.tables.of_mut(table).clear();
         Ok(())
@@ -119,8 +129,8 @@ impl<E: Sample> Model<E> {
 
     // Refusals 15, 16, 18, and else all entries are taken over.
     fn copy(&mut self, to: u32, from: u32, transposed: bool) -> Result<(), Stop> {
-        let target = Table::try_from(to)?;
-        let source = Table::try_from(from)?;
+        let target = numbered(to)?;
+        let source = numbered(from)?;
         if target == source {
             return Err(Stop::Declined(Refusal::Table));
         }

@@ -46,7 +46,7 @@ impl Sort {
     // Another sort than this one.
     pub fn other(self, source: &mut Source) -> Sort {
         let more = source.below(6) as usize + 1;
-        Sort::ALL[(self as usize + more) % 7]
+        Sort::ALL[(self as usize + more) % Sort::ALL.len()]
     }
 
     // A placement of the sort.

@@ -1,7 +1,8 @@
 // Calls and their answers as values.
 use masked::Refusal;
 
-// A call of a trio. Tables go by number: 0 left, 1 right, 2 result.
+// A call of a trio. Tables go by number, 0 left, 1 right, 2 result, and not by `Table`, since a number that is none is a call
+// too, with a refusal of its own. Whether a copy is transposed is a flag in the format of calls.
 #[derive(Clone, Copy, PartialEq, Eq, Debug)]
 pub enum Call<E> {
     // Writes one entry.

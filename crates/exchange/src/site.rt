@@ -19,6 +19,7 @@ use trio::Idle;
 // A store is longer than its table's span by this many cells.
 const SPARE: usize = 3;
 
+// Its three stores are lent to each call as three slices, and so stand side by side.
 #[derive(Drop)]
 pub struct Site<E> {
     layout: Layout,

@@ -1,5 +1,5 @@
 // Sum, difference and order of numbers under a mask, by register operations and no loop. No operand may have a bit outside the
-// mask.
+// mask. Each of the six calls names the law that they are the ordinary arithmetic, since each is called by itself.
 ghost use Rattle.std.specs.Prelude.{◌≡◌};
 ghost use Rattle.masked.specs.Arithmetic.{sum_answer, difference_answer, plus_one_answer, minus_one_answer, less_answer, equal_answer, Ordinary};
 

@@ -5,7 +5,7 @@ ghost use Rattle.fields.specs.Fields.{spread};
 
 use crate::refusal::Refusal;
 
-// Entry k is k spread under 0x5555.
+// Entry k is k spread under 0x5555. The table is laid down, and so is written out.
 const DILATED: [u16; 256] = [
     0, 1, 4, 5, 16, 17, 20, 21, 64, 65, 68, 69, 80, 81, 84, 85, 256, 257, 260, 261, 272, 273, 276,
     277, 320, 321, 324, 325, 336, 337, 340, 341, 1024, 1025, 1028, 1029, 1040, 1041, 1044, 1045,

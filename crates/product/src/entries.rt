@@ -8,7 +8,8 @@ use placement::Placement;
 use std::alloc::AllocError;
 use std::ops::Range;
 
-// The cell of an entry inside the table.
+// The cell of an entry inside the table. That the row and the column are inside is said at each function that takes them: they
+// are numbers of the caller's, and go no further.
 pub(crate) fn cell_at<P: Placement>(placement: &P, row: u32, column: u32) -> usize
     requires row { row < (P.site placement.now).rows }
     requires column { column < (P.site placement.now).columns }

@@ -7,7 +7,8 @@ ghost use Rattle.quadtree.specs.Places.{row_of, column_of, ChildRows, ChildColum
 
 use masked::{Refusal, gather};
 
-// The Ahnentafel index of the first block of each level: three times the number of its blocks.
+// The Ahnentafel index of the first block of each level: three times the number of its blocks. The thirteen are laid down, and so
+// are written out.
 const LEVEL_STARTS: [u32; 13] = [
     3, 12, 48, 192, 768, 3_072, 12_288, 49_152, 196_608, 786_432, 3_145_728, 12_582_912, 50_331_648,
 ];

@@ -30,8 +30,8 @@ impl<L: Placement, R: Placement, S: Placement> Idle<L, R, S> {
         }
     }
 
-    // The three stores are lent one by one here and below: the contract names each at entry and at the return by itself, and
-    // get and step only read some of them.
+    // The three stores are lent one by one here and below: the contract names each at entry and at the return by itself; get
+    // writes none of them, and step only one. Each clause names the placements' members, which no `impl Model` can speak of.
 
     // Writes one entry.
     pub fn put<E: Kind + Copy>(

@@ -41,7 +41,8 @@ fn only_triple(grid: Grid, cube: Cube, n: u64) -> Option<Triple>
     (n < cube.size(grid)).then_some(cube.at)
 }
 
-// The triple at n of the forward walk of a cube.
+// The triple at n of the forward walk of a cube. Forward and backward are two functions that call each other: the walk is
+// defined so, and is read so.
 #[cycle(backward_forward)]
 fn forward(grid: Grid, cube: Cube, n: u64) -> Option<Triple>
     ensures { result ≡ slice_get (walked grid cube.height cube.at) n }

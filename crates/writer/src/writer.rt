@@ -27,6 +27,7 @@ fn put_numbers(bytes: &mut [u8], numbers: &[u32]) -> usize
     ensures after { bytes.new ≡ in_form numbers.now ++ drop (length (in_form numbers.now)) bytes.old }
 {
     let mut end = 0;
+    // Where one number ends the next begins.
     for n in numbers {
         end += put_number(&mut bytes[end..], *n);
     }
