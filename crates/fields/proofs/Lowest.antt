@@ -118,3 +118,8 @@ spread_lowest_same n w m _ _ h = spread_over_lowest 32 n w m h
 pub lowest_unshared : (v w y x : ℕ) → bit_and y x ≡ 0 → bit_and (spread v y) (spread w x) ≡ 0
 unfolding spread
 lowest_unshared v w y x d = spread_over_unshared 32 v w y x d
+
+-- all one-bits of a mask are the mask
+pub spread_whole : (m : ℕ) → m < 2 ^ 32 → spread (2 ^ ones m - 1) m ≡ m
+unfolding spread
+spread_whole m h = spread_over_whole 32 m h

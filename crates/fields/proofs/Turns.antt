@@ -2,7 +2,7 @@
 use Rattle.std.proofs.Common.{◌≡◌, ℕ, suc, ◌+◌, ◌-◌, ◌*◌, ◌/◌, ◌%◌, ◌^◌, ◌<◌, ◌≤◌, ◌∙◌, sym, ap, ⊎_elim, one-mul, pow-suc, zero-mul, arith, pow_mono}
 use lib.Count.{ones, ones-le}
 use Rattle.std.proofs.lemmas.Bool.{cases_lt}
-use Rattle.std.proofs.Math.Nat.{div-div-eq-div-mul, div-le_self}
+use Rattle.std.proofs.Math.Nat.{div-div-eq-div-mul, div-eq_of_lt, div-le_self}
 use Rattle.fields.specs.Fields.{spread, gather}
 use Rattle.fields.proofs.Spreads.{cleared, cleared_le, ones_cleared, below_none}
 use Rattle.fields.proofs.Fields.{spread_lowest, spread_le, spread_of_zero, gather_even, gather_odd, gather_below}
@@ -53,13 +53,12 @@ halved n p some =
     let f : 2 ^ p ≡ 2 ^ (p - 1) * 2 = ap (λ k. 2 ^ k) e ∙ pow-suc 2 (p - 1) in
     rw (f, div-div-eq-div-mul n (2 ^ (p - 1)) 2)
 
--- nothing is gathered past the last position
-pub gather_begin : (v mask : ℕ) → v < 2 ^ 32 → mask < 2 ^ 32 → 0 ≡ gather (v / 2 ^ 32) (mask / 2 ^ 32)
-gather_begin v mask small le =
-    let none : v / 2 ^ 32 ≡ 0 = omega arith in
-    let all : mask / 2 ^ 32 ≡ 0 = omega arith in
-    let z = below_none (gather 0 0) 0 (omega arith) (gather_below 0 0 (omega arith)) in
-    rw (none, all, z)
+-- nothing is gathered past the width of the mask
+pub gather_begin : (v mask w : ℕ) → mask < 2 ^ w → 0 ≡ gather (v / 2 ^ w) (mask / 2 ^ w)
+gather_begin v mask w small =
+    let none : mask / 2 ^ w ≡ 0 = div-eq_of_lt small in
+    let z = below_none (gather (v / 2 ^ w) 0) 0 (omega arith) (gather_below (v / 2 ^ w) 0 (omega arith)) in
+    rw (none, z)
 
 -- out is gathered from position p on: so it is one position further down, or it and the bit there are
 module _ (v mask out p : ℕ) (small : mask < 2 ^ 32) (some : 0 < p) (gathered : out ≡ gather (v / 2 ^ p) (mask / 2 ^ p)) where

@@ -47,7 +47,7 @@ pub(crate) fn check_inside(v: u32, mask: u32) -> Result<(), Refusal>
     Ok(())
 }
 
-// The bits of v at the one-bits of the mask, lowest first: what spread put there. They are taken from the highest down,
+// The bits of v at the one-bits of the mask, lowest first: what spread put there. They are taken from the mask's highest down,
 // each behind those before it.
 pub fn gather(v: u32, mask: u32) -> Result<u32, Refusal>
     ensures value { result ≡ gather_answer v mask }
@@ -55,7 +55,7 @@ pub fn gather(v: u32, mask: u32) -> Result<u32, Refusal>
 {
     check_inside(v, mask)?;
     let mut out = 0u32;
-    for position in (0..32u32).rev() {
+    for position in (0..width(mask)).rev() {
         if (mask >> position) % 2 == 1 {
             out = 2 * out + (v >> position) % 2;
         }
