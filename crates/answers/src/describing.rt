@@ -12,7 +12,7 @@ use masked::Refusal;
 use orders::named;
 use placement::{Placement, Shape, idle};
 use std::alloc::{AllocError, Global};
-use texts::Hex;
+use texts::push_hex;
 
 // How many bytes of an input are read. The rest is ignored.
 pub const LIMIT: usize = 4096;
@@ -36,10 +36,10 @@ fn push_layout(out: &mut String, layout: &Layout) -> Result<(), AllocError>
     // The writer puts a descriptor into bytes that are lent to it.
     let mut bytes = [0u8; LONGEST];
     let len = write(layout, &mut bytes).unwrap();
-    let descriptor = Hex(&bytes[..len]);
+    push_hex(out, &bytes[..len])?;
     let span = layout.span();
     let idle = idle(layout);
-    writeln!(out, "{descriptor} {span} {idle}")
+    writeln!(out, " {span} {idle}")
 }
 
 // Appends the refusal.

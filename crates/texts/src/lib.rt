@@ -3,4 +3,4 @@
 
 mod text;
 
-pub use text::Hex;
+pub use text::{Hex, push_hex};

@@ -1,8 +1,33 @@
 // Writes bytes as text.
-ghost use Rattle.std.specs.Prelude.{Some};
-ghost use Rattle.texts.specs.Hex.{hex};
+ghost use Rattle.std.specs.Prelude.{◌≡◌, ◌<◌, ◌++◌, Some, string_bytes, OnOk};
+ghost use Rattle.texts.specs.Hex.{hex_digit, hex};
 
+use std::alloc::AllocError;
 use std::fmt;
+
+// The lower-case hexadecimal digit of a number below 16.
+fn hex_digit(n: u8) -> char
+    requires { n < 16 }
+    ensures { result ≡ hex_digit n }
+{
+    if n < 10 {
+        char::from(b'0' + n)
+    } else {
+        char::from(b'a' - 10 + n)
+    }
+}
+
+// Appends two hexadecimal digits for each byte. It goes past the formatter, which takes longer for them than all else that
+// an answer takes.
+pub fn push_hex(out: &mut String, bytes: &[u8]) -> Result<(), AllocError>
+    ensures { OnOk result (string_bytes out.new ≡ string_bytes out.old ++ hex bytes.now) }
+{
+    for &byte in bytes {
+        out.push(hex_digit(byte / 16))?;
+        out.push(hex_digit(byte % 16))?;
+    }
+    Ok(())
+}
 
 // Bytes as they are printed: two lower-case hexadecimal digits each.
 #[derive(Clone, Copy)]
