@@ -25,7 +25,7 @@ fn main(rt: HostRuntime) -> io::Result<()> {
         readings::short_strings(),
     )?;
     print(&rt, "random strings", readings::random_strings(heap))?;
-    let damaged = readings::damaged_descriptors(heap)?;
+    let damaged = readings::damaged_descriptors(heap);
     print(&rt, "damaged descriptors", damaged)?;
     let orders = placements::named_orders();
     print(&rt, "named orders of small tables", orders)?;

@@ -1,7 +1,6 @@
 // Named orders of small tables: every entry's cell by the positions of its bits, and owners, spans and idle cells by search.
 use crate::source::LETTERS;
 use layouts::Layout;
-use masked::Refusal;
 use orders::named;
 use placement::{Placement, Shape, idle};
 use tally::Tally;
@@ -64,7 +63,7 @@ impl Order {
                         tally.note(is_inside && cell == self.cell(row, column));
                         largest = largest.max(cell);
                     }
-                    Err(refusal) => tally.note(!is_inside && refusal == Refusal::Outside),
+                    Err(refusal) => tally.note(!is_inside && refusal.number() == 17),
                 }
             }
         }
@@ -75,7 +74,8 @@ impl Order {
         let entries = self.shape.rows.wrapping_mul(self.shape.columns);
         tally.note(layout.span() == largest.wrapping_add(1));
         tally.note(owners.all == u64::from(entries));
-        tally.note(idle(layout) == layout.span().wrapping_sub(entries));
+        let idle_cells = u64::from(layout.span()).wrapping_sub(owners.all);
+        tally.note(u64::from(idle(layout)) == idle_cells);
         tally.and(owners)
     }
 

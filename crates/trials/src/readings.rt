@@ -1,13 +1,13 @@
 // The reader against a second reading of the format, which keeps no rule of the first: it gathers the bytes of a number
 // with their place first, and then judges the number by its place in the row.
 use crate::source::{LETTERS, Source};
-use descriptor::{Fault, LONGEST, read, write};
+use descriptor::{LONGEST, read, write};
 use draws::Draws;
 use layouts::Layout;
 use masked::Refusal;
 use orders::named;
 use placement::Shape;
-use std::alloc::{AllocError, Global};
+use std::alloc::Global;
 use tally::Tally;
 
 // How many one-bits, counted one after another.
@@ -20,6 +20,13 @@ fn binary_digits(n: u32) -> usize {
     (0..32u32).filter(|k| n.wrapping_shr(*k) > 0).count()
 }
 
+// A refusal as the format has it: its number and the place, and no type of the library's.
+#[derive(Clone, Copy, PartialEq, Eq, Debug)]
+struct Verdict {
+    number: u8,
+    place: usize,
+}
+
 // A number of a descriptor, and the place of its first byte.
 #[derive(Clone, Copy)]
 struct Number {
@@ -28,13 +35,13 @@ struct Number {
 }
 
 impl Number {
-    // Refuses the number, unless a rule of the format is kept.
-    fn must(self, is_kept: bool, refusal: Refusal) -> Result<(), Fault> {
+    // Refuses the number by the number of a rule of the format, unless the rule is kept.
+    fn must(self, is_kept: bool, number: u8) -> Result<(), Verdict> {
         if is_kept {
             Ok(())
         } else {
-            Err(Fault {
-                refusal,
+            Err(Verdict {
+                number,
                 place: self.place,
             })
         }
@@ -56,23 +63,23 @@ impl<'a> Numbers<'a> {
     }
 
     // How many bytes the next number has: it ends within four, at the first that is below 128.
-    fn length(&self) -> Result<usize, Fault> {
+    fn length(&self) -> Result<usize, Verdict> {
         let rest = self.rest();
         match rest.iter().take(4).position(|byte| *byte < 128) {
             Some(last) => Ok(last.saturating_add(1)),
-            None if rest.len() < 4 => Err(Fault {
-                refusal: Refusal::Ended,
+            None if rest.len() < 4 => Err(Verdict {
+                number: 1,
                 place: self.input.len(),
             }),
-            None => Err(Fault {
-                refusal: Refusal::TooLong,
+            None => Err(Verdict {
+                number: 2,
                 place: self.place,
             }),
         }
     }
 
     // The next number. What its bytes come to is taken from the last to the first.
-    fn next(&mut self) -> Result<Number, Fault> {
+    fn next(&mut self) -> Result<Number, Verdict> {
         let length = self.length()?;
         let bytes = self.rest().get(..length).unwrap_or(&[]);
         let value = bytes.iter().rev().fold(0u32, |value, byte| {
@@ -83,42 +90,42 @@ impl<'a> Numbers<'a> {
             value,
             place: self.place,
         };
-        number.must(is_shortest, Refusal::Padded)?;
+        number.must(is_shortest, 3)?;
         self.place = self.place.saturating_add(length);
         Ok(number)
     }
 
     // The rows or the columns, which are told less one.
-    fn side(&mut self) -> Result<u32, Fault> {
+    fn side(&mut self) -> Result<u32, Verdict> {
         let less_one = self.next()?;
-        less_one.must(less_one.value <= 4095, Refusal::Shape)?;
+        less_one.must(less_one.value <= 4095, 5)?;
         Ok(less_one.value.wrapping_add(1))
     }
 
     // The mask of a side.
-    fn mask(&mut self, entries: u32) -> Result<Number, Fault> {
+    fn mask(&mut self, entries: u32) -> Result<Number, Verdict> {
         let mask = self.next()?;
         let digits = binary_digits(entries.saturating_sub(1));
-        mask.must(one_bits(mask.value) == digits, Refusal::MaskBits)?;
-        mask.must(mask.value <= 0x00ff_ffff, Refusal::MaskPosition)?;
+        mask.must(one_bits(mask.value) == digits, 6)?;
+        mask.must(mask.value <= 0x00ff_ffff, 7)?;
         Ok(mask)
     }
 
     // The stride, for the near side and the strided one.
-    fn stride(&mut self, near: u32, strided: u32) -> Result<(), Fault> {
+    fn stride(&mut self, near: u32, strided: u32) -> Result<(), Verdict> {
         let stride = self.next()?;
         let is_long = stride.value >= near && stride.value < 4096;
-        stride.must(is_long, Refusal::Stride)?;
+        stride.must(is_long, 9)?;
         let is_masked = one_bits(stride.value) == 1 || strided == 1;
-        stride.must(!is_masked, Refusal::Uncanonical)
+        stride.must(!is_masked, 10)
     }
 }
 
 // What the second reading finds: the kind, rows less one, columns less one, and then two masks or a stride.
-fn judged(input: &[u8]) -> Result<(), Fault> {
+fn judged(input: &[u8]) -> Result<(), Verdict> {
     let mut numbers = Numbers { input, place: 0 };
     let kind = numbers.next()?;
-    kind.must(kind.value <= 2, Refusal::Kind)?;
+    kind.must(kind.value <= 2, 4)?;
     let rows = numbers.side()?;
     let columns = numbers.side()?;
     match kind.value {
@@ -126,14 +133,14 @@ fn judged(input: &[u8]) -> Result<(), Fault> {
             let row_mask = numbers.mask(rows)?;
             let column_mask = numbers.mask(columns)?;
             let is_apart = row_mask.value & column_mask.value == 0;
-            column_mask.must(is_apart, Refusal::MaskOverlap)?;
+            column_mask.must(is_apart, 8)?;
         }
         1 => numbers.stride(columns, rows)?,
         _ => numbers.stride(rows, columns)?,
     }
     if numbers.place < input.len() {
-        return Err(Fault {
-            refusal: Refusal::Trailing,
+        return Err(Verdict {
+            number: 11,
             place: numbers.place,
         });
     }
@@ -155,7 +162,13 @@ fn is_accepted(input: &[u8]) -> bool {
 fn agrees(input: &[u8]) -> bool {
     match read(input) {
         Ok(layout) => is_written_as(&layout, input) && judged(input).is_ok(),
-        Err(fault) => judged(input) == Err(fault),
+        Err(fault) => {
+            let told = Verdict {
+                number: fault.refusal.number(),
+                place: fault.place,
+            };
+            judged(input) == Err(told)
+        }
     }
 }
 
@@ -206,45 +219,55 @@ fn random_layout(source: &mut Source) -> Result<Layout, Refusal> {
     named(letter, shape, inner)
 }
 
+// The longest descriptor, and one byte more.
+const ROOM: usize = LONGEST + 1;
+
+// A descriptor, with room for one byte more. No list on the heap: the trials of the reader need no memory.
+#[derive(Clone, Copy)]
+struct Text {
+    bytes: [u8; ROOM],
+    length: usize,
+}
+
+impl Text {
+    // The first bytes, as many as are asked for.
+    fn first(&self, length: usize) -> &[u8] {
+        self.bytes.get(..length).unwrap_or(&[])
+    }
+}
+
 // The descriptor of such a layout, or none where it is declined.
-fn random_descriptor(source: &mut Source) -> Result<Option<Vec<u8>>, AllocError> {
-    let mut text = vec![in source.heap; 0u8; LONGEST]?;
-    let Ok(layout) = random_layout(source) else {
-        return Ok(None);
-    };
-    let Ok(length) = write(&layout, text.as_mut_slice()) else {
-        return Ok(None);
-    };
-    text.truncate(length);
-    Ok(Some(text))
+fn random_descriptor(source: &mut Source) -> Option<Text> {
+    let layout = random_layout(source).ok()?;
+    let mut bytes = [0u8; ROOM];
+    let length = write(&layout, &mut bytes).ok()?;
+    Some(Text { bytes, length })
 }
 
 // A descriptor as it is, cut, prolonged, and with one byte changed.
-fn damaged(source: &mut Source, mut text: Vec<u8>) -> Result<Tally, AllocError> {
+fn damaged(source: &mut Source, mut text: Text) -> Tally {
     let mut tally = Tally::new();
-    tally.note(is_accepted(text.as_slice()));
-    let place = source.below(14) as usize % text.len().max(1);
-    tally.note(agrees(text.get(..place).unwrap_or(&[])));
-    text.push(0)?;
-    tally.note(agrees(text.as_slice()));
-    let _ = text.pop();
+    tally.note(is_accepted(text.first(text.length)));
+    let place = source.below(14) as usize % text.length.max(1);
+    tally.note(agrees(text.first(place)));
+    tally.note(agrees(text.first(text.length.saturating_add(1))));
     let change = source.below(255) as u8;
-    if let Some(byte) = text.get_mut(place) {
+    if let Some(byte) = text.bytes.get_mut(place) {
         *byte = byte.wrapping_add(change).wrapping_add(1);
     }
-    tally.note(agrees(text.as_slice()));
-    Ok(tally)
+    tally.note(agrees(text.first(text.length)));
+    tally
 }
 
 // Descriptors of named orders, and what becomes of each when it is damaged.
-pub fn damaged_descriptors(heap: Global) -> Result<Tally, AllocError> {
+pub fn damaged_descriptors(heap: Global) -> Tally {
     let mut tally = Tally::new();
     let mut source = Source::new(heap, 0x2545_f491_4f6c_dd1d);
     for _ in 0..20_000u32 {
-        match random_descriptor(&mut source)? {
-            Some(text) => tally = tally.and(damaged(&mut source, text)?),
+        match random_descriptor(&mut source) {
+            Some(text) => tally = tally.and(damaged(&mut source, text)),
             None => tally.note(false),
         }
     }
-    Ok(tally)
+    tally
 }
