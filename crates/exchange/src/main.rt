@@ -28,7 +28,7 @@ use tally::Tally;
 
 // A site, with how its tables lie.
 fn print_site(rt: &HostRuntime, text: &str, site: &Site<TravelTime>) -> Result<(), Failure> {
-    let letter = site.letter(rt.alloc())?;
+    let letter = site.letter()?;
     let cells = site.cells();
     let pairs = Zone::PAIRS;
     println!(rt;

@@ -4,17 +4,18 @@ use calls::Answer;
 use std::fmt;
 use tally::Tally;
 
-// A call in words, and what each site answered.
+// A call in words, and what each site answered, if it did.
 #[derive(Drop)]
 pub struct Reply<E> {
     pub words: &'static str,
-    pub office: Answer<E>,
-    pub router: Answer<E>,
+    pub office: Option<Answer<E>>,
+    pub router: Option<Answer<E>>,
 }
 
-// How many answers are the same at both sites.
+// How many answers are the same at both sites. An answer that is missing is not the same as any.
 pub fn compared<E: Shown>(replies: &[Reply<E>]) -> Tally {
-    Tally::of(replies.iter().map(|reply| reply.office == reply.router))
+    let is_same = |reply: &Reply<E>| reply.office.is_some() && reply.office == reply.router;
+    Tally::of(replies.iter().map(is_same))
 }
 
 // An answer in words.

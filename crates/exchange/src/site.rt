@@ -50,8 +50,8 @@ impl<E: Shown> Site<E> {
     }
 
     // The descriptor of the layout.
-    pub fn letter(&self, heap: Global) -> Result<Letter, Failure> {
-        Letter::about(heap, &self.layout)
+    pub fn letter(&self) -> Result<Letter, Failure> {
+        Letter::about(&self.layout)
     }
 
     // The tables as a trio. All three have one layout.
@@ -146,16 +146,15 @@ pub fn make_both<E: Shown>(
         router.results.as_mut_slice(),
         calls.as_slice(),
     )?;
-    // Should a list of answers end early, fewer are compared, and the number that is printed says so.
-    let at_office = outcomes.first.answers.iter();
-    let at_router = outcomes.second.answers.iter();
+    let at_office = &outcomes.first.answers;
+    let at_router = &outcomes.second.answers;
     questions
         .iter()
-        .zip(at_office.zip(at_router))
-        .map(|(question, (office, router))| Reply {
+        .enumerate()
+        .map(|(n, question)| Reply {
             words: question.words,
-            office: *office,
-            router: *router,
+            office: at_office.get(n).copied(),
+            router: at_router.get(n).copied(),
         })
         .collect(heap)
 }

@@ -42,7 +42,7 @@ impl<E: Shown> Sites<E> {
     fn exchange(&mut self, heap: Global) -> Result<(), Failure> {
         let calls = script::fill(heap)?;
         let _answers = self.office.make(heap, calls.as_slice())?;
-        let letter = self.office.letter(heap)?;
+        let letter = self.office.letter()?;
         self.router.receive(&letter, &mut self.office)
     }
 

@@ -46,10 +46,12 @@ impl<E: Shown> fmt::Display for Transcript<'_, E> {
     fn fmt<W: fmt::Write>(&self, f: &mut fmt::Formatter<W>) -> fmt::Result {
         f.write_str("     call                            office          router")?;
         for reply in self.0 {
-            let words = reply.words;
-            let office = Told(reply.office);
-            let router = Told(reply.router);
-            write!(f, "\n     {words:<32}{office:<16}{router}")?;
+            if let (Some(office), Some(router)) = (reply.office, reply.router) {
+                let words = reply.words;
+                let office = Told(office);
+                let router = Told(router);
+                write!(f, "\n     {words:<32}{office:<16}{router}")?;
+            }
         }
         Ok(())
     }
