@@ -3,9 +3,9 @@
 use crate::sample::{Sample, samples};
 use crate::source::Source;
 use placement::Shape;
-use std::alloc::{AllocError, Global};
+use std::alloc::AllocError;
 
-#[derive(Clone, Drop)]
+#[derive(Drop)]
 pub struct Grid<E> {
     shape: Shape,
     rows: Vec<Vec<E>>,
@@ -45,18 +45,5 @@ impl<E: Sample> Grid<E> {
         for row in self.rows.iter_mut() {
             row.fill_with(|| zero);
         }
-    }
-
-    // The table with rows and columns exchanged.
-    pub fn transposed(&self, heap: Global) -> Result<Grid<E>, AllocError> {
-        let shape = Shape {
-            rows: self.shape.columns,
-            columns: self.shape.rows,
-        };
-        let turned = |column: u32| (0..shape.columns)
-            .map(|row| self.or_zero(row, column))
-            .collect(heap);
-        let rows = (0..shape.rows).map(turned).try_collect(heap)?;
-        Ok(Grid { shape, rows })
     }
 }

@@ -127,23 +127,33 @@ impl<E: Sample> Model<E> {
         Ok(())
     }
 
-    // Refusals 15, 16, 18, and else all entries are taken over.
-    fn copy(&mut self, to: u32, from: u32, transposed: bool) -> Result<(), Stop> {
+    // Refusals 15, 16, 18, and else all entries are taken over, one by one: no memory is wanted for it.
+    fn copy(&mut self, to: u32, from: u32, transposed: bool) -> Result<(), Refusal> {
         let target = numbered(to)?;
         let source = numbered(from)?;
         if target == source {
-            return Err(Stop::Declined(Refusal::Table));
+            return Err(Refusal::Table);
         }
         self.stored()?;
-        let taken = if transposed {
-            self.table(source).transposed(self.heap)?
+        let turned = |row, column| if transposed {
+            (column, row)
         } else {
-            self.table(source).clone()?
+            (row, column)
         };
-        if self.table(target).shape() != taken.shape() {
-            return Err(Stop::Declined(Refusal::Mismatch));
+        let shape = self.table(target).shape();
+        let taken = self.table(source).shape();
+        if (shape.rows, shape.columns) != turned(taken.rows, taken.columns) {
+            return Err(Refusal::Mismatch);
         }
-        *self.tables.of_mut(target) = taken;
+        for row in 0..shape.rows {
+            for column in 0..shape.columns {
+                let (i, j) = turned(row, column);
+                let value = self.table(source).or_zero(i, j);
+                if let Some(entry) = self.tables.of_mut(target).entry_mut(row, column) {
+                    *entry = value;
+                }
+            }
+        }
         Ok(())
     }
 
