@@ -72,13 +72,13 @@ group_fits value b g h l =
     times a p h = mul-le a p 127 p h (omega arith)
 
 -- the last byte: a zero byte after others, or the number
-last_padded : (first g value b next : ℕ) → 0 < g → b ≡ 0 → Err (fault Padded first) ≡ after first g value (Ok (number b next))
+pub last_padded : (first g value b next : ℕ) → 0 < g → b ≡ 0 → Err (fault Padded first) ≡ after first g value (Ok (number b next))
 last_padded first g value b next h z =
     let some : ltb 0 g ≡ true = lt-ltb 0 g h in
     let none : eqb b 0 ≡ true = eq-eqb b 0 z in
     rw (some, none)
 
-last_kept : (first g value b next : ℕ) → g < 4 → b < 128 → ((b ≡ 0) × (g ≤ 0)) ⊎ (b ≡ 0 → ⊥) → Ok (number (value + ((b % 128) * 2 ^ (7 * g)) % 2 ^ 32) next) ≡ after first g value (Ok (number b next))
+pub last_kept : (first g value b next : ℕ) → g < 4 → b < 128 → ((b ≡ 0) × (g ≤ 0)) ⊎ (b ≡ 0 → ⊥) → Ok (number (value + ((b % 128) * 2 ^ (7 * g)) % 2 ^ 32) next) ≡ after first g value (Ok (number b next))
 last_kept first g value b next l low = ⊎_elim
     (λ h. let t : ltb 0 g ≡ false = le-ltb 0 g h.1 in rw t (ap (λ (v : ℕ). Ok (number v next)) value_is))
     (λ h. let t : eqb b 0 ≡ false = ne_eqb b 0 h in rw (t, and_none (ltb 0 g)) (ap (λ (v : ℕ). Ok (number v next)) value_is))
@@ -112,7 +112,7 @@ module _ (input : List ℕ) (first g value : ℕ) (h : SoFar input first g value
   left_more l = let e : 4 - g ≡ suc (3 - g) = omega arith in ap (λ (k : ℕ). number_by (length input) first k (first + g) (drop (first + g) input)) e
 
   -- the last byte
-  so_far_last : (b : ℕ) → g < 4 → (first + g) < length input → b ≡ get_or input (first + g) 0 → b < 128 → after first g value (Ok (number b ((first + g) + 1))) ≡ number_at input first
+  pub so_far_last : (b : ℕ) → g < 4 → (first + g) < length input → b ≡ get_or input (first + g) 0 → b < 128 → after first g value (Ok (number b ((first + g) + 1))) ≡ number_at input first
   so_far_last b l e is low =
       let t : ltb (get_or input (first + g) 0) 128 ≡ true = lt-ltb (get_or input (first + g) 0) 128 (omega arith) in
       left_is (Ok (number b ((first + g) + 1)))

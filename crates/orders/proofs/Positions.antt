@@ -115,3 +115,11 @@ unshared_tested = refl
 
 pub full_unshared : (p : ℕ) → p ≤ 12 → bit_and (row_full p) (column_full p) ≡ 0
 full_unshared p h = eqb-true (bit_and (row_full p) (column_full p)) 0 (every_at (λ q. eqb (bit_and (row_full q) (column_full q)) 0) 13 unshared_tested p (omega arith))
+
+-- ---- with no run below, every other position from 0 and from 1 on
+
+pub column_full_none : column_full 0 ≡ 0x5555_5555
+column_full_none = refl
+
+pub row_full_none : row_full 0 ≡ 0xaaaa_aaaa
+row_full_none = refl

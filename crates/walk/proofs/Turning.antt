@@ -92,7 +92,7 @@ module _ (g : Grid) (h k : ℕ) (up : h ≡ suc k) where
     long_back : length (back g k t) ≡ size_of g c
     long_back = length-reverse (walked g k t) ∙ long
 
-  turn_leads : (ahead : Bool) (ts : List Triple) (cs : List Cube) (n : ℕ) → StandAt h ts cs → slice_get (in_turn (cond ahead (walked g k) (back g k)) (cond ahead (back g k) (walked g k)) ts) n ≡ answer g (turn_of (size_of g) ahead cs n)
+  pub turn_leads : (ahead : Bool) (ts : List Triple) (cs : List Cube) (n : ℕ) → StandAt h ts cs → slice_get (in_turn (cond ahead (walked g k) (back g k)) (cond ahead (back g k) (walked g k)) ts) n ≡ answer g (turn_of (size_of g) ahead cs n)
   turn_leads true [] [] n s = refl
   turn_leads false [] [] n s = refl
   turn_leads ahead [] (c ∷ cs) n s = absurd s
