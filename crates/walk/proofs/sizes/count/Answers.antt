@@ -1,4 +1,4 @@
-use Rattle.std.proofs.Common.{◌≡◌, false, length, sym, ap, ◌∙◌, arith}
+use Rattle.std.proofs.Common.{◌≡◌, ◌≤◌, false, length, sym, ap, ◌∙◌, arith}
 use Rattle.std.proofs.lemmas.Bool.{both_ways}
 use Rattle.walk.specs.Walks.{allowed, all_tiles}
 use Rattle.walk.proofs.Once.{reflected_walks}
@@ -21,10 +21,11 @@ pub overflow_mul-result-2 : goal.overflow_mul-result-2
 overflow_mul-result-2 c =
     let s = c.args.sizes in
     let b = bounds s (sym c.if-not-is_allowed.ensures) in
-    let x = tiles_small s.rows s.order b.rows in
-    let y = tiles_small s.columns s.order b.columns in
-    let z = tiles_small s.middle s.order b.middle in
-    rw c.grid-grid.ensures (let fits = product_fits _ _ _ x y z in omega arith)
+    let grid = c.grid-grid.result in
+    let x : grid.rows ≤ 4096 = rw c.grid-grid.ensures (tiles_small s.rows s.order b.rows) in
+    let y : grid.columns ≤ 4096 = rw c.grid-grid.ensures (tiles_small s.columns s.order b.columns) in
+    let z : grid.middle ≤ 4096 = rw c.grid-grid.ensures (tiles_small s.middle s.order b.middle) in
+    record { fits = product_fits _ _ _ (omega (arith, x, y, z)) (omega (arith, x, y, z)) (omega (arith, x, y, z)) }
 
 pub returns : goal.returns
 returns c =
